@@ -1,0 +1,6 @@
+pub mod Signed
+pub mod Ring
+pub mod Wide
+pub mod WaveLemmas
+pub mod WindowLaws
+mod Digits

@@ -1,0 +1,112 @@
+//! The relay's whole-number arithmetic: complex numbers, the printed sine tables, counted steps and decimal digits.
+//!
+//! Every call is exact within the bounds that it requires, and nothing here takes memory. A phasor's
+//! parts are counts scaled as `specs/Windows.antt` says: a peak of A counts over a cycle of N samples
+//! has the size A * N / 64.
+#![tactic(auto)]
+
+ghost use Rattle.std.specs.Prelude.{◌≡◌, ◌^◌, ◌<◌, ◌≤◌, ◌+◌, ℕ, ◌⊎◌, pos, ◌*◌, ◌*ℤ◌, ◌≤ℤ◌, IsTrue, ◌↔◌};
+ghost use Rattle.relay_num.specs.Numbers.{floor_div, IsBelow, value_of, product, conjugate, norm, turned, turned_back, is_at_least};
+
+mod decimals;
+mod steps;
+mod waves;
+
+pub use decimals::put_decimal;
+pub use steps::{Steps, open_steps};
+pub use waves::wave;
+
+/// There was not enough memory.
+#[derive(Clone, Copy, PartialEq, Eq, Debug, Drop)]
+pub struct NoMemory;
+
+/// A complex number.
+#[derive(Clone, Copy, PartialEq, Eq, Debug, Default, Drop)]
+pub struct Cx {
+    pub re: i64,
+    pub im: i64,
+}
+
+/// A complex number with wide parts.
+#[derive(Clone, Copy, PartialEq, Eq, Debug, Default, Drop)]
+pub struct Cx128 {
+    pub re: i128,
+    pub im: i128,
+}
+
+/// `x` divided by `2 ^ bits`, rounded down.
+pub fn floor_shift(x: i64, bits: u32) -> i64
+    requires { bits < 63 }
+    ensures { result ≡ floor_div x (2 ^ bits) }
+{
+    x >> bits
+}
+
+/// The product.
+pub fn mul(a: Cx, b: Cx) -> Cx128
+    requires a { IsBelow a (2 ^ 62) }
+    requires b { IsBelow b (2 ^ 62) }
+    ensures { value_of result ≡ product a b }
+{
+    let (a_re, a_im) = (i128::from(a.re), i128::from(a.im));
+    let (b_re, b_im) = (i128::from(b.re), i128::from(b.im));
+    Cx128 {
+        re: a_re * b_re - a_im * b_im,
+        im: a_re * b_im + a_im * b_re,
+    }
+}
+
+/// The product with the conjugate.
+pub fn mul_conj(a: Cx128, b: Cx) -> Cx128
+    requires a { IsBelow (value_of a) (2 ^ 80) }
+    requires b { IsBelow b (2 ^ 45) }
+    ensures { value_of result ≡ product (value_of a) (conjugate b) }
+{
+    let (b_re, b_im) = (i128::from(b.re), i128::from(b.im));
+    Cx128 {
+        re: a.re * b_re + a.im * b_im,
+        im: a.im * b_re - a.re * b_im,
+    }
+}
+
+/// `x` turned by a third of a circle.
+pub fn times_a(x: Cx) -> Cx
+    requires { IsBelow x (2 ^ 48) }
+    ensures { result ≡ turned x }
+{
+    Cx {
+        re: floor_shift(-8192 * x.re - 14189 * x.im, 14),
+        im: floor_shift(14189 * x.re - 8192 * x.im, 14),
+    }
+}
+
+/// `x` turned by two thirds of a circle.
+pub fn times_a2(x: Cx) -> Cx
+    requires { IsBelow x (2 ^ 48) }
+    ensures { result ≡ turned_back x }
+{
+    Cx {
+        re: floor_shift(-8192 * x.re + 14189 * x.im, 14),
+        im: floor_shift(-14189 * x.re - 8192 * x.im, 14),
+    }
+}
+
+/// The square of the size.
+pub fn norm(p: Cx) -> i128
+    requires { IsBelow p (2 ^ 62) }
+    ensures { result ≡ norm p }
+{
+    let (re, im) = (i128::from(p.re), i128::from(p.im));
+    re * re + im * im
+}
+
+/// Whether `p`, a phasor of `n` samples a cycle, is at least `m` counts rms.
+pub fn at_least_rms(p: Cx, n: u32, m: u32) -> bool
+    requires n { (n ≡ 80) ⊎ (n ≡ 96) }
+    requires p { IsBelow p (2 ^ 48) }
+    requires m { m ≤ 2 ^ 30 }
+    ensures { result ≡ is_at_least p n m }
+{
+    let least = i128::from(n) * i128::from(m);
+    2048 * norm(p) >= least * least
+}
