@@ -1,0 +1,96 @@
+//! The frame: what stands in front of the APDU, and the layers one after the other.
+ghost use Rattle.std.specs.Prelude.{◌≡◌, ◌+◌, ◌*◌, ◌≤◌, length, min, IfSome, IfOk};
+ghost use Rattle.std.specs.Option.{option_map};
+ghost use Rattle.sv_frame.specs.Asdu.{plain_asdus};
+ghost use Rattle.sv_frame.specs.Frame.{begins, untagged, payload_of, apdu_of, asdus_in};
+ghost use Rattle.sv_frame.specs.Answer.{seen};
+
+use crate::Reason;
+use crate::asdus::asdus_of;
+use crate::lent::Asdu;
+use crate::pdu::{pdu_of, texts_of};
+use arrayvec::ArrayVec;
+use byteorder::{BigEndian, ByteOrder};
+use relay_num::Steps;
+use std::sync::ledger::Ledger;
+
+fn begins(bytes: &[u8], kind: u16) -> bool
+    ensures { result ≡ begins kind bytes.now }
+{
+    if bytes.len() < 2 {
+        return false;
+    }
+    BigEndian::read_u16(bytes) == kind
+}
+
+fn untagged(bytes: &[u8]) -> &[u8]
+    ensures exact { result.now ≡ untagged bytes.now }
+    ensures size { length result.now ≤ length bytes.now }
+{
+    if !begins(bytes, 0x8100) {
+        return bytes;
+    }
+    if bytes.len() < 4 {
+        return &[];
+    }
+    &bytes[4..]
+}
+
+/// The bytes behind the EtherType of sampled values.
+pub(crate) fn payload_of(frame: &[u8]) -> Option<&[u8]>
+    ensures exact { option_map (λ x. x.now) result ≡ payload_of frame.now }
+    ensures size { IfSome result (λ x. length x.now ≤ length frame.now) }
+{
+    if frame.len() < 12 {
+        return None;
+    }
+    let typed = untagged(&frame[12..]);
+    if !begins(typed, 0x88ba) {
+        return None;
+    }
+    Some(&typed[2..])
+}
+
+/// The APDU behind the four words. `before` bytes of the frame stand before the payload.
+fn apdu_of<'a>(before: usize, payload: &'a [u8], captured: u32) -> Result<&'a [u8], Reason>
+    requires { before + length payload.now ≡ min captured 2048 }
+    ensures exact { seen (λ x. x.now) result ≡ apdu_of before captured payload.now }
+    ensures small { IfOk result (λ x. length x.now ≤ 2048) }
+{
+    if payload.len() < 8 {
+        return Err(Reason::Header);
+    }
+    let counted = BigEndian::read_u16(&payload[2..]) as usize;
+    if counted < 8 || before + counted > captured as usize {
+        return Err(Reason::Length);
+    }
+    if captured > 2048 {
+        return Err(Reason::Long);
+    }
+    Ok(&payload[8..counted])
+}
+
+#[tactic(auto, unfolding(crate::specs::Frame::asdus_in))]
+pub(crate) fn asdus_in<'a, L: Ledger>(
+    before: usize,
+    payload: &'a [u8],
+    captured: u32,
+    steps: &mut Steps<L>,
+) -> Result<ArrayVec<Asdu<'a>, 16>, Reason>
+    requires { before + length payload.now ≡ min captured 2048 }
+    ensures exact { seen (λ found. plain_asdus found.items) result ≡ asdus_in before captured payload.now }
+    ensures cost { steps.new ≤ steps.old + 4 + 17 * 16 }
+    ensures each { IfOk result (λ found. steps.new ≤ steps.old + 4 + 17 * length found.items) }
+{
+    let apdu = apdu_of(before, payload, captured)?;
+    let Some(parts) = pdu_of(apdu, steps) else {
+        return Err(Reason::Pdu);
+    };
+    let Some(texts) = texts_of(parts, steps) else {
+        return Err(Reason::Count);
+    };
+    let Some(found) = asdus_of(&texts, steps) else {
+        return Err(Reason::Asdu);
+    };
+    Ok(found)
+}
