@@ -1,0 +1,4 @@
+pub mod PieceLoops
+pub mod OneRecord
+pub mod Steps
+pub mod RecordBytes

@@ -1,0 +1,179 @@
+ghost use Rattle.std.specs.Prelude.{◌≡◌, ◌+◌, ◌-◌, ◌^◌, ◌≤◌, ◌<◌, ◌++◌, [], length, drop, take, vec_len, vec_capacity, IsTrue, true, false, IfOk, OnOk, OnErr, is_ok};
+ghost use Rattle.room_io.specs.Room.{IsReadyIn, OnlyAt, StaysOpen, HasCause};
+ghost use Rattle.room_io.specs.declared.room.Slot.TheVariants.{Capture};
+ghost use Rattle.capture_feed.specs.Passes.{Passes, BreaksOff};
+
+use relay_num::NoMemory;
+use room_io::{Fault, Room, Slot};
+use std::alloc::Global;
+
+/// How many bytes a block has room for.
+const BLOCK: usize = 65536;
+
+/// The most bytes of one read.
+const PIECE: usize = 4096;
+
+/// Bytes that were read ahead; those from `at` on were not yet handed out.
+#[derive(Drop)]
+pub struct Block {
+    pub bytes: Vec<u8>,
+    pub at: usize,
+    ghost within: { at ≤ vec_len bytes },
+    ghost room: { 65536 ≤ vec_capacity bytes },
+}
+
+/// Removes the first bytes, and keeps the memory.
+fn remove_front(bytes: &mut Vec<u8>, count: usize)
+    requires { count ≤ vec_len bytes.old }
+    ensures items { bytes.new.items ≡ drop count bytes.old.items }
+    ensures capacity { vec_capacity bytes.new ≡ vec_capacity bytes.old }
+{
+    let len = bytes.len();
+    bytes.as_mut_slice().copy_within(count..len, 0);
+    bytes.truncate(len - count);
+}
+
+/// Appends bytes for which there is memory.
+fn append(bytes: &mut Vec<u8>, piece: &[u8])
+    requires { vec_len bytes.old + length piece.now ≤ vec_capacity bytes.old }
+    ensures items { bytes.new.items ≡ bytes.old.items ++ piece.now }
+    ensures capacity { vec_capacity bytes.old ≤ vec_capacity bytes.new }
+{
+    let Ok(()) = bytes.extend_from_slice(piece) else {
+        unreachable!()
+    };
+}
+
+/// Reads until so many bytes are there or the input ends.
+fn read_until<R: Room>(room: &mut R, bytes: &mut Vec<u8>, need: usize) -> Result<(), Fault>
+    requires ready { IsReadyIn Capture (R.state room.old) }
+    requires few { need ≤ 4096 }
+    requires fewer { vec_len bytes.old ≤ need }
+    requires room { 65536 ≤ vec_capacity bytes.old }
+    ensures left { IsTrue (R.state room.old).tells →
+        bytes.old.items ++ (R.state room.old).capture.bytes ≡ bytes.new.items ++ (R.state room.new).capture.bytes }
+    ensures end { OnOk result (IsTrue (R.state room.old).tells → vec_len bytes.new < need → (R.state room.new).capture.bytes ≡ []) }
+    ensures short { OnErr result (vec_len bytes.new < need) }
+    ensures capacity { 65536 ≤ vec_capacity bytes.new }
+    ensures stays { StaysOpen Capture (R.state room.old) (R.state room.new) }
+    ensures cause { HasCause (R.state room.old).capture.faults (R.state room.new).capture.faults result }
+    ensures only { OnlyAt Capture (R.state room.old) (R.state room.new) }
+{
+    let mut piece = [0u8; 4096];
+    while bytes.len() < need {
+        match room.read(Slot::Capture, &mut piece) {
+            Ok(0) => return Ok(()),
+            Ok(count) => append(bytes, &piece[..count]),
+            Err(fault) => return Err(fault),
+        }
+    }
+    Ok(())
+}
+
+/// Passes over so many bytes; false where the input ends before.
+fn pass_over<R: Room>(room: &mut R, count: u64) -> Result<bool, Fault>
+    requires ready { IsReadyIn Capture (R.state room.old) }
+    ensures all { IfOk result (λ all. all ≡ true → IsTrue (R.state room.old).tells →
+        Passes count (R.state room.old).capture.bytes (R.state room.new).capture.bytes) }
+    ensures ended { IfOk result (λ all. all ≡ false → IsTrue (R.state room.old).tells →
+        length (R.state room.old).capture.bytes < count) }
+    ensures broken { OnErr result (IsTrue (R.state room.old).tells →
+        BreaksOff count (R.state room.old).capture.bytes (R.state room.new).capture.bytes) }
+    ensures stays { StaysOpen Capture (R.state room.old) (R.state room.new) }
+    ensures cause { HasCause (R.state room.old).capture.faults (R.state room.new).capture.faults result }
+    ensures only { OnlyAt Capture (R.state room.old) (R.state room.new) }
+{
+    let mut piece = [0u8; 4096];
+    let mut left = count;
+    while left > 0 {
+        let want = left.min(4096) as usize;
+        match room.read(Slot::Capture, &mut piece[..want]) {
+            Ok(0) => return Ok(false),
+            Ok(passed) => left -= passed as u64,
+            Err(fault) => return Err(fault),
+        }
+    }
+    Ok(true)
+}
+
+impl Block {
+    ghost use Rattle.capture_feed.specs.Block.{pending};
+
+    /// An empty block of 64 KiB.
+    pub fn new(alloc: Global) -> Result<Block, NoMemory>
+        ensures { IfOk result (λ block. pending block ≡ []) }
+    {
+        match Vec::with_capacity(alloc, BLOCK) {
+            Ok(bytes) => Ok(Block { bytes, at: 0 }),
+            Err(_) => Err(NoMemory),
+        }
+    }
+
+    /// How many bytes it holds.
+    pub fn held(&self) -> usize
+        ensures { result ≡ length (pending self.now) }
+    {
+        self.bytes.len() - self.at
+    }
+
+    /// The bytes that it holds.
+    pub fn rest(&self) -> &[u8]
+        ensures { result.now ≡ pending self.now }
+    {
+        &self.bytes[self.at..]
+    }
+
+    /// Passes over bytes that it holds.
+    pub fn advance(&mut self, count: usize)
+        requires { count ≤ length (pending self.old) }
+        ensures { pending self.new ≡ drop count (pending self.old) }
+    {
+        self.at += count;
+    }
+
+    /// Reads until it holds so many bytes or the input ends.
+    pub fn fill<R: Room>(&mut self, room: &mut R, need: usize) -> Result<(), Fault>
+        requires ready { IsReadyIn Capture (R.state room.old) }
+        requires few { need ≤ 4096 }
+        ensures left { IsTrue (R.state room.old).tells →
+            pending self.old ++ (R.state room.old).capture.bytes ≡ pending self.new ++ (R.state room.new).capture.bytes }
+        ensures end { OnOk result (IsTrue (R.state room.old).tells → length (pending self.new) < need → (R.state room.new).capture.bytes ≡ []) }
+        ensures short { OnErr result (length (pending self.new) < need) }
+        ensures stays { StaysOpen Capture (R.state room.old) (R.state room.new) }
+        ensures cause { HasCause (R.state room.old).capture.faults (R.state room.new).capture.faults result }
+        ensures only { OnlyAt Capture (R.state room.old) (R.state room.new) }
+    {
+        if self.bytes.len() - self.at >= need {
+            return Ok(());
+        }
+        remove_front(&mut self.bytes, self.at);
+        self.at = 0;
+        read_until(room, &mut self.bytes, need)
+    }
+
+    /// Passes over so many bytes; false where the input ends before.
+    pub fn skip<R: Room>(&mut self, room: &mut R, count: u64) -> Result<bool, Fault>
+        requires ready { IsReadyIn Capture (R.state room.old) }
+        ensures bytes { self.new.bytes ≡ self.old.bytes }
+        ensures all { IfOk result (λ all. all ≡ true → IsTrue (R.state room.old).tells →
+            Passes count (pending self.old ++ (R.state room.old).capture.bytes) (pending self.new ++ (R.state room.new).capture.bytes)) }
+        ensures ended { IfOk result (λ all. all ≡ false → IsTrue (R.state room.old).tells →
+            length (pending self.old ++ (R.state room.old).capture.bytes) < count) }
+        ensures broken { OnErr result (IsTrue (R.state room.old).tells →
+            BreaksOff count (pending self.old ++ (R.state room.old).capture.bytes) (R.state room.new).capture.bytes) }
+        ensures stays { StaysOpen Capture (R.state room.old) (R.state room.new) }
+        ensures cause { HasCause (R.state room.old).capture.faults (R.state room.new).capture.faults result }
+        ensures only { OnlyAt Capture (R.state room.old) (R.state room.new) }
+    {
+        let held = self.bytes.len() - self.at;
+        if count <= held as u64 {
+            self.at += count as usize;
+            return Ok(true);
+        }
+        self.at = self.bytes.len();
+        match pass_over(room, count - held as u64) {
+            Ok(all) => Ok(all),
+            Err(fault) => Err(fault),
+        }
+    }
+}
