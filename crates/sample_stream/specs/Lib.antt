@@ -1,0 +1,4 @@
+pub mod Bounds
+pub mod Taken
+pub mod Numbering
+pub mod Samples
