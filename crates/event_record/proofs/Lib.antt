@@ -1,0 +1,3 @@
+pub mod Civil
+pub mod Midnight
+pub mod Lengths

@@ -1,0 +1,3 @@
+pub mod Time
+pub mod Line
+pub mod Printable
