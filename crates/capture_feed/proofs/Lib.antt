@@ -2,3 +2,4 @@ pub mod PieceLoops
 pub mod OneRecord
 pub mod Steps
 pub mod RecordBytes
+pub mod Beginning

@@ -1,15 +1,15 @@
 -- What the bytes read so far show of all the records that are left.
-use Rattle.std.proofs.Common.{◌≡◌, ℕ, zero, suc, ◌+◌, ◌-◌, ◌≤◌, ◌<◌, ◌⊎◌, inl, inr, Bool, List, [], ◌∷◌, ◌++◌, length, take, drop, min, length-append, length-drop, length-take-le, append-nil, refl, sym, ap, subst, ◌∙◌, arith}
+use Rattle.std.proofs.Common.{◌≡◌, ℕ, zero, suc, ◌+◌, ◌≤◌, ◌<◌, ◌⊎◌, inl, inr, Bool, List, [], ◌∷◌, ◌++◌, length, take, drop, min, length-append, length-drop, append-nil, refl, sym, ap, ◌∙◌, arith}
 use Rattle.std.specs.Prelude.{Option, Some, None, true, false, nat_lt, if◌then◌else◌}
 use Rattle.std.specs.Option.{option_map}
 use Rattle.std.proofs.lemmas.Bool.Decides.{nat_tests}
 use Rattle.std.proofs.lemmas.List.{drop-drop, take_all, drop-append-le, take-append-le}
 use Rattle.std.proofs.lemmas.Grind.{common_steps}
 use Rattle.std.proofs.Math.Seq.{drop-append_seam}
-use Rattle.capture_feed.specs.Capture.{Stop, Whole, Damaged, Cut, TooLong, captured, size, body, stop_at, Records, add, stopped, records_from, records, order, header_order}
-use Rattle.capture_feed.specs.Passes.{Passes, BreaksOff}
+use Rattle.capture_feed.specs.Capture.{Stop, Whole, Damaged, Cut, captured, stop_at, add, stopped, records_from, records, order, header_order}
+use Rattle.capture_feed.specs.Passes.{Passes}
 use Rattle.capture_feed.specs.Gives.{Gives, HoldsNone}
-use Rattle.capture_feed.proofs.OneRecord.{HasRecord, has_record, records-stop, records-whole, records-cut_head, records-cut_body, records-damaged, records-one, captured-front}
+use Rattle.capture_feed.proofs.OneRecord.{has_record, records-stop, records-whole, records-cut_head, records-cut_body, records-damaged, records-one, captured-front}
 
 whole_is : (whole front left : List ℕ) → whole ≡ front ++ left → left ≡ [] → whole ≡ front
 whole_is whole front left e none = e ∙ (ap (λ xs. front ++ xs) none ∙ append-nil front)
@@ -45,7 +45,7 @@ no_bodies : (is_big : Bool) (limit taken : ℕ) (front : List ℕ) (o : Option S
 no_bodies is_big limit taken front (Some stop) h short = ap (λ records. records.bodies) (records-stop is_big limit taken front stop h)
 no_bodies is_big limit taken front None h short = let fits : 16 + captured is_big front ≤ length front = (has_record is_big limit taken front h).whole in absurd (omega arith)
 
-either_way : (m n : ℕ) → (m ≤ n) ⊎ (n < m)
+pub either_way : (m n : ℕ) → (m ≤ n) ⊎ (n < m)
 either_way zero n = inl (omega arith)
 either_way (suc m) zero = inr (omega arith)
 either_way (suc m) (suc n) = elim (either_way m n) [ inl h ↦ inl (omega arith) | inr h ↦ inr (omega arith) ]
@@ -120,12 +120,12 @@ long_order xs long =
     let enough : nat_lt (length xs) 24 ≡ false = grind (arith, nat_tests) in
     ap (λ (b : Bool). if b then None else header_order xs) enough
 
-order-front : (front left : List ℕ) → 24 ≤ length front → order (front ++ left) ≡ order front
+pub order-front : (front left : List ℕ) → 24 ≤ length front → order (front ++ left) ≡ order front
 order-front front left long =
     let len = length-append front left in
     long_order (front ++ left) (omega arith) ∙ (header_order-front front left long ∙ sym (long_order front long))
 
-order-short : (xs : List ℕ) → length xs < 24 → order xs ≡ None
+pub order-short : (xs : List ℕ) → length xs < 24 → order xs ≡ None
 order-short xs short =
     let few : nat_lt (length xs) 24 ≡ true = grind (arith, nat_tests) in
     ap (λ (b : Bool). if b then None else header_order xs) few

@@ -1,7 +1,7 @@
 -- The records that a feed has still to hand out.
-use Rattle.std.specs.Prelude.{◌≡◌, ℕ, List, [], ◌++◌, length, take, Bool}
+use Rattle.std.specs.Prelude.{ℕ, List, ◌++◌}
 use Rattle.capture_feed.specs.declared.feed.Feed.{Feed}
-use Rattle.capture_feed.specs.Capture.{Records, records_from, add}
+use Rattle.capture_feed.specs.Capture.{Records, records_from}
 use Rattle.capture_feed.specs.Block.{pending}
 
 -- the records in what the block holds and the input has left

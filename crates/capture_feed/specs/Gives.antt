@@ -1,6 +1,6 @@
 -- What one answer of a feed tells of the records in a capture.
 use Rattle.std.specs.Prelude.{◌≡◌, ℕ, ◌+◌, ◌++◌, List, [], length, take, drop, Bool}
-use Rattle.capture_feed.specs.Capture.{Records, records_from, add}
+use Rattle.capture_feed.specs.Capture.{records_from, add}
 
 -- the first record of `old` was handed out, and `new` is left; `bytes` of it are lent
 pub record Gives (is_big : Bool) (limit taken : ℕ) (bytes : List ℕ) (captured : ℕ) (old new : List ℕ) : Type 0 where

@@ -5,6 +5,7 @@ ghost use Rattle.room_io.specs.Room.{at, IsReadyIn, OnlyAt, StaysOpen, Rose};
 ghost use Rattle.room_io.specs.declared.room.Slot.TheVariants.{Capture};
 ghost use Rattle.capture_feed.specs.Capture.{records, records_from, order, stopped, Whole, Damaged, Cut, TooLong};
 ghost use Rattle.capture_feed.specs.Passes.{BreaksOff};
+ghost use Rattle.capture_feed.specs.Begins.{Begins};
 ghost use Rattle.capture_feed.specs.Block.{pending};
 ghost use Rattle.capture_feed.specs.Gives.{Gives, HoldsNone};
 
@@ -106,6 +107,8 @@ impl Feed {
         ensures taken { OnOk result (self.new.taken ≡ 24) }
         ensures ok { OnOk result (IsTrue (R.state room.old).tells →
             records (R.state room.old).capture.bytes self.old.limit ≡ Some (found self.new (R.state room.new).capture.bytes)) }
+        ensures begun { OnOk result (IsTrue (R.state room.old).tells →
+            Begins self.new.is_big (R.state room.old).capture.bytes (pending self.new.block ++ (R.state room.new).capture.bytes)) }
         ensures not_capture { IsErrOf result FeedStop.NotCapture → IsTrue (R.state room.old).tells →
             records (R.state room.old).capture.bytes self.old.limit ≡ None }
         ensures later { (R.state room.old).capture.faults ≤ (R.state room.new).capture.faults }
