@@ -1,0 +1,4 @@
+//! Rows of the formats, one file a layer.
+mod elements;
+mod frames;
+mod samples;
