@@ -15,3 +15,6 @@ mod written;
 
 pub use feed::{Feed, FeedStop, Rec};
 pub use written::{put_header, put_record};
+
+#[cfg(test)]
+mod tests;

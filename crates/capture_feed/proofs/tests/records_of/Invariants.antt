@@ -1,0 +1,11 @@
+use Rattle.std.proofs.Common.{◌-◌, IsTrue}
+use Rattle.room_io.specs.Room.{IsReadyIn}
+use Rattle.room_io.specs.Mem.{mem_state}
+use Rattle.room_io.specs.declared.room.Slot.TheVariants.{Capture}
+use Rattle.capture_feed.proofs.tests.records_of.Given as goal
+
+abbrev pub invariant-records : goal.invariant-records
+invariant-records l = IsTrue l.feed.is_live × IsReadyIn Capture (mem_state l.room)
+
+abbrev pub decreases-records : goal.decreases-records
+decreases-records l = l.feed.limit - l.feed.taken

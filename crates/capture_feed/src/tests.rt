@@ -1,0 +1,200 @@
+ghost use Rattle.std.specs.Prelude.{◌≡◌, ◌^◌, ◌<◌, ◌≤◌, IsTrue};
+ghost use Rattle.room_io.specs.Room.{IsReadyIn};
+ghost use Rattle.room_io.specs.declared.room.Slot.TheVariants.{Capture};
+
+use crate::{Feed, FeedStop, put_header, put_record};
+use arrayvec::ArrayVec;
+use room_io::{MemRoom, Room, Slot};
+use std::alloc::{AllocError, Global};
+use std::process::Abort;
+use std::test::Fail;
+
+const LITTLE_NANOS: [u8; 4] = [0x4d, 0x3c, 0xb2, 0xa1];
+
+const LITTLE_MICROS: [u8; 4] = [0xd4, 0xc3, 0xb2, 0xa1];
+
+const BIG_NANOS: [u8; 4] = [0xa1, 0xb2, 0x3c, 0x4d];
+
+const BIG_MICROS: [u8; 4] = [0xa1, 0xb2, 0xc3, 0xd4];
+
+/// How many records came, the captured bytes of all, and the stop behind them.
+type Came = (u64, u64, Option<FeedStop>);
+
+/// A capture with records of these captured lengths.
+fn capture_of(alloc: Global, magic: [u8; 4], lengths: &[u32]) -> Result<Vec<u8>, AllocError> {
+    let is_big = magic[0] == 0xa1;
+    let mut capture = Vec::new(alloc);
+    capture.extend_from_slice(&magic)?;
+    if is_big {
+        capture.extend_from_slice(&[0, 2, 0, 4, 0, 0, 0, 0, 0, 0, 0, 0, 0, 0, 8, 0, 0, 0, 0, 1])?;
+    } else {
+        capture.extend_from_slice(&[2, 0, 4, 0, 0, 0, 0, 0, 0, 0, 0, 0, 0, 8, 0, 0, 1, 0, 0, 0])?;
+    }
+    for &length in lengths {
+        let number = if is_big {
+            length.to_be_bytes()
+        } else {
+            length.to_le_bytes()
+        };
+        capture.extend_from_slice(&[0; 8])?;
+        capture.extend_from_slice(&number)?;
+        capture.extend_from_slice(&number)?;
+        for _ in 0..length {
+            capture.push(7)?;
+        }
+    }
+    Ok(capture)
+}
+
+/// Reads all records of a capture whose `failing`-th call fails, in pieces of `most` bytes.
+fn records_of(
+    alloc: Global,
+    capture: &[u8],
+    limit: u64,
+    most: usize,
+    failing: u64,
+) -> Result<Came, Fail>
+    requires limit { (24 ≤ limit) × (limit ≤ 2 ^ 40) }
+    requires most { 0 < most }
+{
+    let mut room = MemRoom::new(alloc, 0)?;
+    room.put("a.pcap", capture)?;
+    room.pieces(most);
+    room.fail(Slot::Capture, failing)?;
+    room.open_in(Slot::Capture, "a.pcap")?;
+    let mut feed = Feed::new(alloc, limit)?;
+    if let Err(stop) = feed.begin(&mut room) {
+        return Ok((0, 0, Some(stop)));
+    }
+    let mut count: u64 = 0;
+    let mut captured: u64 = 0;
+    'records: loop {
+        match feed.next(&mut room) {
+            Ok(got) => match got {
+                Some(rec) => {
+                    count = count.wrapping_add(1);
+                    captured = captured.wrapping_add(u64::from(rec.captured));
+                }
+                None => return Ok((count, captured, None)),
+            },
+            Err(stop) => return Ok((count, captured, Some(stop))),
+        }
+    }
+}
+
+/// However reads are cut, this comes of a capture.
+fn comes(rt: &impl Abort, alloc: Global, capture: &[u8], limit: u64, want: Came) -> Result<(), Fail>
+    requires { (24 ≤ limit) × (limit ≤ 2 ^ 40) }
+{
+    assert_eq!(rt; records_of(alloc, capture, limit, 1, 0)?, want);
+    assert_eq!(rt; records_of(alloc, capture, limit, 7, 0)?, want);
+    assert_eq!(rt; records_of(alloc, capture, limit, 65537, 0)?, want);
+    Ok(())
+}
+
+#[test]
+fn captures_stop_as_they_should(rt: HostRuntime) -> Result<(), Fail> {
+    let most = 1 << 40;
+    for magic in [LITTLE_NANOS, LITTLE_MICROS, BIG_NANOS, BIG_MICROS] {
+        let capture = capture_of(rt.alloc(), magic, &[116])?;
+        comes(&rt, rt.alloc(), &capture, most, (1, 116, None))?;
+    }
+    let mut header = capture_of(rt.alloc(), LITTLE_NANOS, &[])?;
+    comes(&rt, rt.alloc(), &header, most, (0, 0, None))?;
+    let _last = header.pop();
+    comes(
+        &rt,
+        rt.alloc(),
+        &header,
+        most,
+        (0, 0, Some(FeedStop::NotCapture)),
+    )?;
+    let two = capture_of(rt.alloc(), LITTLE_NANOS, &[116, 116])?;
+    comes(
+        &rt,
+        rt.alloc(),
+        &two,
+        100,
+        (1, 116, Some(FeedStop::TooLong)),
+    )?;
+    let long = capture_of(rt.alloc(), LITTLE_NANOS, &[116, 262_144, 116])?;
+    comes(&rt, rt.alloc(), &long, most, (3, 262_376, None))?;
+    let damaged = capture_of(rt.alloc(), LITTLE_NANOS, &[262_145])?;
+    let stop = FeedStop::Damaged { length: 262_145 };
+    comes(&rt, rt.alloc(), &damaged, most, (0, 0, Some(stop)))?;
+    let mut ten = capture_of(rt.alloc(), LITTLE_NANOS, &[116; 10])?;
+    let _last = ten.pop();
+    comes(&rt, rt.alloc(), &ten, most, (9, 1044, Some(FeedStop::Cut)))?;
+    Ok(())
+}
+
+#[test]
+fn a_fault_comes_behind_the_whole_records(rt: HostRuntime) -> Result<(), Fail> {
+    let two = capture_of(rt.alloc(), LITTLE_NANOS, &[116, 116])?;
+    let fault = Some(FeedStop::Fault);
+    for (failing, want) in [
+        (2, (0, 0, fault)),
+        (3, (2, 232, fault)),
+        (4, (2, 232, None)),
+    ] {
+        assert_eq!(rt;
+            records_of(rt.alloc(), &two, 1000, 4096, failing)?,
+            want,
+            "{failing}"
+        );
+    }
+    Ok(())
+}
+
+/// The lent lengths of the next two records.
+fn two_lengths<R: Room>(feed: &mut Feed, room: &mut R) -> Option<(usize, usize)>
+    requires live { IsTrue feed.old.is_live }
+    requires ready { IsReadyIn Capture (R.state room.old) }
+{
+    let first = match feed.next(room) {
+        Ok(got) => match got {
+            Some(rec) => rec,
+            None => return None,
+        },
+        Err(_) => return None,
+    };
+    let first_length = first.bytes.len();
+    let second = match feed.next(room) {
+        Ok(got) => match got {
+            Some(rec) => rec,
+            None => return None,
+        },
+        Err(_) => return None,
+    };
+    Some((first_length, second.bytes.len()))
+}
+
+#[test]
+fn at_most_2048_bytes_are_lent(rt: HostRuntime) -> Result<(), Fail> {
+    let mut room = MemRoom::new(rt.alloc(), 0)?;
+    room.put("a.pcap", &capture_of(rt.alloc(), LITTLE_NANOS, &[3000, 5])?)?;
+    room.open_in(Slot::Capture, "a.pcap")?;
+    let mut feed = Feed::new(rt.alloc(), 10_000)?;
+    feed.begin(&mut room)?;
+    assert!(rt; feed.live());
+    assert_eq!(rt; two_lengths(&mut feed, &mut room), Some((2048, 5)));
+    assert_eq!(rt; feed.taken(), 24 + 3016 + 21);
+    Ok(())
+}
+
+#[test]
+fn a_capture_is_written(rt: HostRuntime) {
+    let mut out: ArrayVec<u8, 1064> = ArrayVec::new();
+    put_header(&mut out);
+    assert_eq!(rt;
+        out.as_slice(),
+        b"\x4d\x3c\xb2\xa1\x02\x00\x04\x00\x00\x00\x00\x00\x00\x00\x00\x00\xff\xff\x00\x00\x01\x00\x00\x00".as_slice()
+    );
+    out.clear();
+    put_record(&mut out, 0x6592_0080, 0, &[9; 128]);
+    assert_eq!(rt; out.len(), 144);
+    assert_eq!(rt;
+        out.as_slice().get(..17),
+        Some(b"\x80\x00\x92\x65\x00\x00\x00\x00\x80\x00\x00\x00\x80\x00\x00\x00\x09".as_slice())
+    );
+}
