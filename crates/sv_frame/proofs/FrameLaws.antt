@@ -117,7 +117,7 @@ sequence_read parts texts h =
     let n : ℕ = big_number (length parts.count) parts.count in
     elim (chosen (nat_le 1 n && nat_le n 16) (sequence_of n parts.sequence) None (Some texts) h) [
       | inl p ↦
-          let r = and_parts _ _ p.0 in
+          let r : (nat_le 1 n ≡ true) × (nat_le n 16 ≡ true) = and_parts _ _ p.0 in
           let a = bound (elements n parts.sequence) _ texts p.1 in
           let es = elements_read n parts.sequence a.0 a.1 in
           elim (chosen (length a.0 == n && list_all (λ e. e.tag == 0x30) a.0) (Some a.0) None (Some texts) a.2) [

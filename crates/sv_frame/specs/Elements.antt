@@ -1,4 +1,4 @@
--- Elements one behind the other.
+-- BER elements (ITU-T X.690) one behind the other.
 use Rattle.std.specs.Prelude.{◌≡◌, ℕ, zero, suc, List, [], ◌∷◌, Option, Some, None}
 use Rattle.ber_fields.specs.Element.{Element, Fronts, ◌>>=◌, element_at}
 

@@ -1,4 +1,4 @@
--- What a frame of sampled values says, layer by layer.
+-- What a frame of sampled values says (IEC 61850-9-2), layer by layer, over whole lists of bytes.
 use Rattle.std.specs.Prelude.{ℕ, ◌+◌, ◌-◌, Bool, ◌==◌, ◌&&◌, ◌||◌, nat_lt, nat_le, if◌then◌else◌, List, length, take, drop, Option, Some, None, Result, Ok, Err}
 use Rattle.byteorder.specs.Endian.{big_number}
 use Rattle.sv_frame.specs.declared.Reason.{Reason}

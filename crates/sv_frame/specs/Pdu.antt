@@ -1,4 +1,4 @@
--- What the APDU of a frame says.
+-- What the APDU of a frame says (IEC 61850-9-2): how many ASDUs there are, and the elements that hold them.
 use Rattle.std.specs.Prelude.{ℕ, ◌==◌, ◌&&◌, nat_le, if◌then◌else◌, List, [], ◌∷◌, length, Option, Some, None}
 use Rattle.std.specs.List.{list_all}
 use Rattle.byteorder.specs.Endian.{big_number}
@@ -10,6 +10,7 @@ pub record Parts : Type 0 where
   pub count : List ℕ
   pub sequence : List ℕ
 
+-- the tags are 0x80 and 0xa2, and the number has one to four bytes
 abbrev pub counted : Element → Element → Option Parts
 counted number sequence = if number.tag == 0x80 && (nat_le 1 (length number.contents) && (nat_le (length number.contents) 4 && (sequence.tag == 0xa2)))
     then Some (record { count = number.contents; sequence = sequence.contents })
@@ -29,6 +30,7 @@ only tag [] = None
 only tag (e ∷ []) = if e.tag == tag then Some e.contents else None
 only tag (e ∷ f ∷ more) = None
 
+-- one element of a PDU fills the APDU, and holds the parts
 unfoldable pub pdu_of : List ℕ → Option Parts
 pdu_of apdu = do
   outer ← elements 1 apdu
@@ -42,6 +44,7 @@ sequence_of count bytes = do
   texts ← elements count bytes
   if length texts == count && list_all (λ e. e.tag == 0x30) texts then Some texts else None
 
+-- the number, read unsigned, is from 1 to 16, and the sequence holds exactly that many
 abbrev pub texts_of : Parts → Option (List Element)
 texts_of parts =
     let count = big_number (length parts.count) parts.count in

@@ -11,6 +11,7 @@ use byteorder::{BigEndian, ByteOrder};
 use relay_num::Steps;
 use std::sync::ledger::Ledger;
 
+/// The contents of the first field of this tag.
 fn contents_of<'a>(tag: u8, fields: &[Field<'a>]) -> Option<&'a [u8]>
     ensures small { IfSome result (λ x. length x.now ≤ 2048) }
     ensures exact { option_map (λ x. x.now) result ≡ contents_of tag (fields_view fields.now) }
@@ -23,6 +24,7 @@ fn contents_of<'a>(tag: u8, fields: &[Field<'a>]) -> Option<&'a [u8]>
     None
 }
 
+/// Contents of this tag that have this length.
 fn sized<'a>(size: usize, tag: u8, fields: &[Field<'a>]) -> Option<&'a [u8]>
     ensures exact { option_map (λ x. x.now) result ≡ sized size tag (fields_view fields.now) }
     ensures size { IfSome result (λ x. length x.now ≡ size) }
@@ -35,6 +37,7 @@ fn sized<'a>(size: usize, tag: u8, fields: &[Field<'a>]) -> Option<&'a [u8]>
     }
 }
 
+/// Whether the tags that an ASDU knows rise, so that each comes once at most.
 fn is_rising(fields: &[Field]) -> bool
     ensures { result ≡ is_rising 0x80 (known (fields_view fields.now)) }
 {
@@ -50,6 +53,7 @@ fn is_rising(fields: &[Field]) -> bool
     true
 }
 
+/// What the fields say, where the required ones are there.
 #[tactic(auto, unfolding(crate::specs::Asdu::asdu_from))]
 fn asdu_from<'a>(fields: &[Field<'a>]) -> Option<Asdu<'a>>
     ensures { option_map plain_asdu result ≡ asdu_from (fields_view fields.now) }
@@ -71,6 +75,7 @@ fn asdu_from<'a>(fields: &[Field<'a>]) -> Option<Asdu<'a>>
     })
 }
 
+/// The ASDU whose fields, sixteen at most, fill the bytes.
 fn asdu_of<'a, L: Ledger>(text: &'a [u8], steps: &mut Steps<L>) -> Option<Asdu<'a>>
     requires { length text.now ≤ 2048 }
     ensures exact { option_map plain_asdu result ≡ asdu_of text.now }
@@ -80,7 +85,7 @@ fn asdu_of<'a, L: Ledger>(text: &'a [u8], steps: &mut Steps<L>) -> Option<Asdu<'
     asdu_from(&fields)
 }
 
-/// Every one of the ASDUs.
+/// The ASDUs of all these elements.
 pub(crate) fn asdus_of<'a, L: Ledger>(
     texts: &[Field<'a>],
     steps: &mut Steps<L>,

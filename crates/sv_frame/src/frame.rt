@@ -14,6 +14,7 @@ use byteorder::{BigEndian, ByteOrder};
 use relay_num::Steps;
 use std::sync::ledger::Ledger;
 
+/// Whether an EtherType of this kind stands at the front.
 fn begins(bytes: &[u8], kind: u16) -> bool
     ensures { result ≡ begins kind bytes.now }
 {
@@ -23,6 +24,7 @@ fn begins(bytes: &[u8], kind: u16) -> bool
     BigEndian::read_u16(bytes) == kind
 }
 
+/// What stands behind a tag of a virtual network, if there is one.
 fn untagged(bytes: &[u8]) -> &[u8]
     ensures exact { result.now ≡ untagged bytes.now }
     ensures size { length result.now ≤ length bytes.now }
@@ -51,7 +53,8 @@ pub(crate) fn payload_of(frame: &[u8]) -> Option<&[u8]>
     Some(&typed[2..])
 }
 
-/// The APDU behind the four words. `before` bytes of the frame stand before the payload.
+/// The APDU behind the four words APPID, Length and two reserved ones. `before` bytes of the frame
+/// stand before the payload.
 fn apdu_of<'a>(before: usize, payload: &'a [u8], captured: u32) -> Result<&'a [u8], Reason>
     requires { before + length payload.now ≡ min captured 2048 }
     ensures exact { seen (λ x. x.now) result ≡ apdu_of before captured payload.now }
@@ -70,6 +73,7 @@ fn apdu_of<'a>(before: usize, payload: &'a [u8], captured: u32) -> Result<&'a [u
     Ok(&payload[8..counted])
 }
 
+/// The sample sets, or the first layer that fails.
 #[tactic(auto, unfolding(crate::specs::Frame::asdus_in))]
 pub(crate) fn asdus_in<'a, L: Ledger>(
     before: usize,

@@ -57,7 +57,11 @@ pub enum SvRead<'a> {
     Pdu(ArrayVec<Asdu<'a>, 16>),
 }
 
-/// What the frame says. `captured` is how long it was, and `frame` its first 2048 bytes at most.
+/// What a captured frame says. `captured` bytes of it were captured, and `frame` is these, or the
+/// first 2048 where there are more.
+///
+/// Each answer comes exactly where its variant, or that of `Reason`, says. At most `4 + 17 * a` heads
+/// are read for `a` sample sets, and at most `4 + 17 * 16` for any other answer.
 #[tactic(auto, unfolding(crate::specs::Frame::sv))]
 pub fn read<'a, L: Ledger>(frame: &'a [u8], captured: u32, steps: &mut Steps<L>) -> SvRead<'a>
     requires { length frame.now ≡ min captured 2048 }

@@ -12,6 +12,7 @@ use byteorder::{BigEndian, ByteOrder};
 use relay_num::Steps;
 use std::sync::ledger::Ledger;
 
+/// The parts, where the tags are those of a count and a sequence, and the count has one to four bytes.
 fn counted<'a>(number: Field<'a>, sequence: Field<'a>) -> Option<Parts<'a>>
     ensures exact { option_map parts_view result ≡ counted (field_view number.entry) (field_view sequence.entry) }
     ensures size { IfSome result (λ parts. (0 < length parts.count.now) × (length parts.count.now ≤ 4)) }
@@ -29,6 +30,7 @@ fn counted<'a>(number: Field<'a>, sequence: Field<'a>) -> Option<Parts<'a>>
     })
 }
 
+/// The parts that a PDU holds: a count, maybe a security field, and a sequence.
 fn parts_of<'a>(parts: &[Field<'a>]) -> Option<Parts<'a>>
     ensures exact { option_map parts_view result ≡ parts_of (fields_view parts.now) }
     ensures size { IfSome result (λ parts. (0 < length parts.count.now) × (length parts.count.now ≤ 4)) }
@@ -46,6 +48,7 @@ fn parts_of<'a>(parts: &[Field<'a>]) -> Option<Parts<'a>>
     }
 }
 
+/// The contents of the one field there is, where it has this tag.
 fn only<'a>(fields: &[Field<'a>], tag: u8) -> Option<&'a [u8]>
     ensures small { IfSome result (λ x. length x.now ≤ 2048) }
     ensures exact { option_map (λ x. x.now) result ≡ only tag (fields_view fields.now) }
@@ -62,6 +65,7 @@ fn only<'a>(fields: &[Field<'a>], tag: u8) -> Option<&'a [u8]>
     }
 }
 
+/// The parts of the PDU that fills the APDU.
 #[tactic(auto, unfolding(crate::specs::Pdu::pdu_of))]
 pub(crate) fn pdu_of<'a, L: Ledger>(apdu: &'a [u8], steps: &mut Steps<L>) -> Option<Parts<'a>>
     requires { length apdu.now ≤ 2048 }
@@ -95,6 +99,7 @@ fn sequence_of<'a, L: Ledger>(
     }
 }
 
+/// Whether each has the tag of an ASDU.
 fn are_asdus(texts: &[Field]) -> bool
     ensures { result ≡ list_all (λ e. e.tag == 0x30) (fields_view texts.now) }
 {
@@ -106,6 +111,7 @@ fn are_asdus(texts: &[Field]) -> bool
     true
 }
 
+/// As many elements of ASDUs as the count says, from one to sixteen.
 pub(crate) fn texts_of<'a, L: Ledger>(
     parts: Parts<'a>,
     steps: &mut Steps<L>,
