@@ -1,0 +1,24 @@
+//! Reads the relay's settings file.
+//!
+//! A settings file is a TOML document of at most 1,048,576 bytes. It is read by one walk, which tests
+//! each key in a fixed order, and answers the settings or the first refusal that it meets: a number
+//! from 1 to 12 and the path of the key. `specs/Accepted.antt` is that walk, a line for each key, in
+//! the words of `specs/Walk.antt`; each function here has the name of its definition. Stands on
+//! `relay_settings` for the types, `toml` for the tree, `jiff` for the calendar and `arrayvec` for
+//! short texts.
+#![tactic(auto)]
+
+mod error;
+mod file;
+mod goose;
+mod keys;
+mod line;
+mod octets;
+mod place;
+mod start;
+mod tables;
+mod value;
+mod zone;
+
+pub use error::SettingsError;
+pub use file::read_settings;
