@@ -1,0 +1,85 @@
+//! The settings reader on a table of texts.
+//!
+//! Each line of `rows.txt` is an answer that is owed, a base text and an edit of it: `OWED | BASE |
+//! OLD | NEW`, where `\n` stands for a line's end. The program prints each line with the answer that
+//! the edited text gets in the place of the owed one, so `stdout` is `rows.txt` itself, followed by
+//! three texts that no edit makes. Owed is `ok L lines Z zones`, or the number and key of a refusal.
+#![tactic(auto)]
+
+use relay_settings::Settings;
+use settings_read::{SettingsError, read_settings};
+use std::alloc::{AllocError, Global};
+use std::{fs, io};
+
+fn accepted(alloc: Global, settings: Settings) -> Result<String, AllocError> {
+    let lines = settings.lines.len();
+    let zones = settings
+        .lines
+        .iter()
+        .fold(0usize, |n, line| n.saturating_add(line.zones.len()));
+    format!(in alloc; "ok {lines} lines {zones} zones")
+}
+
+fn refused(alloc: Global, e: &SettingsError) -> Result<String, AllocError> {
+    match e {
+        SettingsError::NoMemory => format!(in alloc; "no memory"),
+        SettingsError::Refused { number, key } => format!(in alloc; "{number} {key}"),
+    }
+}
+
+/// What the reader answers for these bytes.
+fn answer(alloc: Global, bytes: &[u8]) -> Result<String, AllocError> {
+    match read_settings(alloc, bytes) {
+        Ok(settings) => accepted(alloc, settings),
+        Err(e) => refused(alloc, &e),
+    }
+}
+
+/// The base text with the first place of `old` as `new`.
+fn edited(alloc: Global, base: &str, old: &str, new: &str) -> Result<String, AllocError> {
+    let old = old.replace(alloc, "\\n", "\n")?;
+    let new = new.replace(alloc, "\\n", "\n")?;
+    base.replacen(alloc, old.as_str(), new.as_str(), 1)
+}
+
+/// The text with a comment that makes it `length` bytes long.
+fn padded(alloc: Global, base: &str, length: usize) -> Result<String, AllocError> {
+    let mut text = String::from_str(alloc, base)?;
+    text.push('#')?;
+    for _ in 0..length {
+        if text.len() < length {
+            text.push(' ')?;
+        }
+    }
+    Ok(text)
+}
+
+fn row(rt: &HostRuntime, line: &str) -> io::Result<()> {
+    let alloc = rt.alloc();
+    let (_, row) = line.split_once(" | ").unwrap_or(("", line));
+    let (name, edit) = row.split_once(" | ").unwrap_or((row, ""));
+    let (old, new) = edit.split_once(" | ").unwrap_or((edit, ""));
+    let path = format!(in alloc; "{name}.toml")?;
+    let base = fs::read_to_string(rt, path.as_str())?;
+    let text = edited(alloc, base.as_str(), old, new)?;
+    let answer = answer(alloc, text.as_bytes())?;
+    println!(rt; "{answer} | {row}")
+}
+
+fn main(rt: HostRuntime) -> io::Result<()> {
+    let alloc = rt.alloc();
+    let rows = fs::read_to_string(&rt, "rows.txt")?;
+    for line in rows.as_str().lines() {
+        row(&rt, line)?;
+    }
+    let base = fs::read_to_string(&rt, "s1.toml")?;
+    let most = padded(alloc, base.as_str(), 1_048_576)?;
+    let answer_most = answer(alloc, most.as_bytes())?;
+    println!(rt; "{answer_most} | s1 | 1048576 bytes")?;
+    let long = padded(alloc, base.as_str(), 1_048_577)?;
+    let answer_long = answer(alloc, long.as_bytes())?;
+    println!(rt; "{answer_long} | s1 | 1048577 bytes")?;
+    let bytes = fs::read(&rt, "not_utf8.toml")?;
+    let answer_bytes = answer(alloc, bytes.as_slice())?;
+    println!(rt; "{answer_bytes} | not_utf8")
+}
