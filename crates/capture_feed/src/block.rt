@@ -51,12 +51,15 @@ fn read_until<R: Room>(room: &mut R, bytes: &mut Vec<u8>, need: usize) -> Result
     requires fewer { vec_len bytes.old ≤ need }
     requires room { 65536 ≤ vec_capacity bytes.old }
     ensures left { IsTrue (R.state room.old).tells →
-        bytes.old.items ++ (R.state room.old).capture.bytes ≡ bytes.new.items ++ (R.state room.new).capture.bytes }
-    ensures end { OnOk result (IsTrue (R.state room.old).tells → vec_len bytes.new < need → (R.state room.new).capture.bytes ≡ []) }
+        bytes.old.items ++ (R.state room.old).capture.bytes ≡
+        bytes.new.items ++ (R.state room.new).capture.bytes }
+    ensures end { OnOk result (IsTrue (R.state room.old).tells → vec_len bytes.new < need →
+        (R.state room.new).capture.bytes ≡ []) }
     ensures short { OnErr result (vec_len bytes.new < need) }
     ensures capacity { 65536 ≤ vec_capacity bytes.new }
     ensures stays { StaysOpen Capture (R.state room.old) (R.state room.new) }
-    ensures cause { HasCause (R.state room.old).capture.faults (R.state room.new).capture.faults result }
+    ensures cause { HasCause (R.state room.old).capture.faults
+        (R.state room.new).capture.faults result }
     ensures only { OnlyAt Capture (R.state room.old) (R.state room.new) }
 {
     let mut piece = [0u8; 4096];
@@ -80,7 +83,8 @@ fn pass_over<R: Room>(room: &mut R, count: u64) -> Result<bool, Fault>
     ensures broken { OnErr result (IsTrue (R.state room.old).tells →
         BreaksOff count (R.state room.old).capture.bytes (R.state room.new).capture.bytes) }
     ensures stays { StaysOpen Capture (R.state room.old) (R.state room.new) }
-    ensures cause { HasCause (R.state room.old).capture.faults (R.state room.new).capture.faults result }
+    ensures cause { HasCause (R.state room.old).capture.faults
+        (R.state room.new).capture.faults result }
     ensures only { OnlyAt Capture (R.state room.old) (R.state room.new) }
 {
     let mut piece = [0u8; 4096];
@@ -136,11 +140,14 @@ impl Block {
         requires ready { IsReadyIn Capture (R.state room.old) }
         requires few { need ≤ 4096 }
         ensures left { IsTrue (R.state room.old).tells →
-            pending self.old ++ (R.state room.old).capture.bytes ≡ pending self.new ++ (R.state room.new).capture.bytes }
-        ensures end { OnOk result (IsTrue (R.state room.old).tells → length (pending self.new) < need → (R.state room.new).capture.bytes ≡ []) }
+            pending self.old ++ (R.state room.old).capture.bytes ≡
+            pending self.new ++ (R.state room.new).capture.bytes }
+        ensures end { OnOk result (IsTrue (R.state room.old).tells →
+            length (pending self.new) < need → (R.state room.new).capture.bytes ≡ []) }
         ensures short { OnErr result (length (pending self.new) < need) }
         ensures stays { StaysOpen Capture (R.state room.old) (R.state room.new) }
-        ensures cause { HasCause (R.state room.old).capture.faults (R.state room.new).capture.faults result }
+        ensures cause { HasCause (R.state room.old).capture.faults
+            (R.state room.new).capture.faults result }
         ensures only { OnlyAt Capture (R.state room.old) (R.state room.new) }
     {
         if self.bytes.len() - self.at >= need {
@@ -156,13 +163,16 @@ impl Block {
         requires ready { IsReadyIn Capture (R.state room.old) }
         ensures bytes { self.new.bytes ≡ self.old.bytes }
         ensures all { IfOk result (λ all. all ≡ true → IsTrue (R.state room.old).tells →
-            Passes count (pending self.old ++ (R.state room.old).capture.bytes) (pending self.new ++ (R.state room.new).capture.bytes)) }
+            Passes count (pending self.old ++ (R.state room.old).capture.bytes)
+            (pending self.new ++ (R.state room.new).capture.bytes)) }
         ensures ended { IfOk result (λ all. all ≡ false → IsTrue (R.state room.old).tells →
             length (pending self.old ++ (R.state room.old).capture.bytes) < count) }
         ensures broken { OnErr result (IsTrue (R.state room.old).tells →
-            BreaksOff count (pending self.old ++ (R.state room.old).capture.bytes) (R.state room.new).capture.bytes) }
+            BreaksOff count (pending self.old ++ (R.state room.old).capture.bytes)
+            (R.state room.new).capture.bytes) }
         ensures stays { StaysOpen Capture (R.state room.old) (R.state room.new) }
-        ensures cause { HasCause (R.state room.old).capture.faults (R.state room.new).capture.faults result }
+        ensures cause { HasCause (R.state room.old).capture.faults
+            (R.state room.new).capture.faults result }
         ensures only { OnlyAt Capture (R.state room.old) (R.state room.new) }
     {
         let held = self.bytes.len() - self.at;

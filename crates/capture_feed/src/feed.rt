@@ -44,8 +44,8 @@ pub enum FeedStop {
 
 /// The records of the room's capture, one after another.
 ///
-/// It is live after a successful `begin`, until `next` answers anything but a record. How reads are cut
-/// changes no answer.
+/// It is live after a successful `begin`, until `next` answers anything but a record. How reads are
+/// cut changes no answer.
 #[derive(Drop)]
 pub struct Feed {
     limit: u64,
@@ -61,11 +61,12 @@ impl Feed {
     ghost use Rattle.capture_feed.specs.contracts.feed.Feed.{the_row};
 
     /// A feed that goes on to a record only while the header and the records so far make fewer than
-    /// `limit` bytes, which is from 24 to 2^40. It takes one block of 64 KiB, and no later call takes
-    /// memory.
+    /// `limit` bytes, which is from 24 to 2^40. It takes one block of 64 KiB, and no later call
+    /// takes memory.
     pub fn new(alloc: Global, limit: u64) -> Result<Feed, NoMemory>
         requires { (24 ≤ limit) × (limit ≤ 2 ^ 40) }
-        ensures { IfOk result (λ feed. (feed.is_live ≡ false) × ((pending feed.block ≡ []) × (feed.limit ≡ limit))) }
+        ensures { IfOk result (λ feed. (feed.is_live ≡ false) ×
+            ((pending feed.block ≡ []) × (feed.limit ≡ limit))) }
     {
         match Block::new(alloc) {
             Ok(block) => Ok(Feed {
@@ -95,20 +96,23 @@ impl Feed {
 
     /// Reads the header of a new feed's capture.
     ///
-    /// `Fault`: a read failed before 24 bytes had come. `NotCapture`: the first 24 bytes, or all of a
-    /// shorter input, are no header. There is no other error. After an error the feed isn't live.
+    /// `Fault`: a read failed before 24 bytes had come. `NotCapture`: the first 24 bytes, or all of
+    /// a shorter input, are no header. There is no other error. After an error the feed isn't live.
     pub fn begin<R: Room>(&mut self, room: &mut R) -> Result<(), FeedStop>
         requires fresh { pending self.old.block ≡ [] }
         requires dead { self.old.is_live ≡ false }
         requires ready { IsReadyIn Capture (R.state room.old) }
         ensures live { self.new.is_live ≡ is_ok result }
-        ensures kinds { IfErr result (λ stop. (stop ≡ FeedStop.Fault) ⊎ (stop ≡ FeedStop.NotCapture)) }
+        ensures kinds { IfErr result (λ stop.
+            (stop ≡ FeedStop.Fault) ⊎ (stop ≡ FeedStop.NotCapture)) }
         ensures limit { self.new.limit ≡ self.old.limit }
         ensures taken { OnOk result (self.new.taken ≡ 24) }
         ensures ok { OnOk result (IsTrue (R.state room.old).tells →
-            records (R.state room.old).capture.bytes self.old.limit ≡ Some (found self.new (R.state room.new).capture.bytes)) }
+            records (R.state room.old).capture.bytes self.old.limit ≡
+            Some (found self.new (R.state room.new).capture.bytes)) }
         ensures begun { OnOk result (IsTrue (R.state room.old).tells →
-            Begins self.new.is_big (R.state room.old).capture.bytes (pending self.new.block ++ (R.state room.new).capture.bytes)) }
+            Begins self.new.is_big (R.state room.old).capture.bytes
+            (pending self.new.block ++ (R.state room.new).capture.bytes)) }
         ensures not_capture { IsErrOf result FeedStop.NotCapture → IsTrue (R.state room.old).tells →
             records (R.state room.old).capture.bytes self.old.limit ≡ None }
         ensures later { (R.state room.old).capture.faults ≤ (R.state room.new).capture.faults }
@@ -135,7 +139,8 @@ impl Feed {
         }
     }
 
-    /// Takes the next record off what is left, and says where its bytes stand and how many there are.
+    /// Takes the next record off what is left, and says where its bytes stand and how many there
+    /// are.
     fn step<R: Room>(&mut self, room: &mut R) -> Result<Option<(usize, u32)>, FeedStop>
         requires live { IsTrue self.old.is_live }
         requires ready { IsReadyIn Capture (R.state room.old) }
@@ -143,18 +148,23 @@ impl Feed {
         ensures dead { OnErr result (self.new.is_live ≡ false) }
         ensures limit { self.new.limit ≡ self.old.limit }
         ensures order { self.new.is_big ≡ self.old.is_big }
-        ensures taken { IfOk result (λ got. IfSome got (λ at. (self.old.taken < self.old.limit) × (self.new.taken ≡ self.old.taken + (16 + at.1)))) }
+        ensures taken { IfOk result (λ got. IfSome got (λ at. (self.old.taken < self.old.limit) ×
+            (self.new.taken ≡ self.old.taken + (16 + at.1)))) }
         ensures kept { OnErr result (self.new.taken ≡ self.old.taken) }
         ensures kept_at_end { IfOk result (λ got. IfNone got (self.new.taken ≡ self.old.taken)) }
-        ensures fits { IfOk result (λ got. IfSome got (λ at. at.0 + min at.1 2048 ≤ vec_len self.new.block.bytes)) }
+        ensures fits { IfOk result (λ got. IfSome got (λ at.
+            at.0 + min at.1 2048 ≤ vec_len self.new.block.bytes)) }
         ensures record { IfOk result (λ got. IfSome got (λ at. IsTrue (R.state room.old).tells →
-            Gives self.old.is_big self.old.limit self.old.taken (take (min at.1 2048) (drop at.0 self.new.block.bytes.items)) at.1
-            (pending self.old.block ++ (R.state room.old).capture.bytes) (pending self.new.block ++ (R.state room.new).capture.bytes))) }
+            Gives self.old.is_big self.old.limit self.old.taken
+            (take (min at.1 2048) (drop at.0 self.new.block.bytes.items)) at.1
+            (pending self.old.block ++ (R.state room.old).capture.bytes)
+            (pending self.new.block ++ (R.state room.new).capture.bytes))) }
         ensures whole { IfOk result (λ got. IfNone got (IsTrue (R.state room.old).tells →
             found self.old (R.state room.old).capture.bytes ≡ stopped Whole)) }
         ensures cut { IsErrOf result FeedStop.Cut → IsTrue (R.state room.old).tells →
             found self.old (R.state room.old).capture.bytes ≡ stopped Cut }
-        ensures damaged { IfErr result (λ stop. (length : ℕ) → stop ≡ FeedStop.Damaged length → IsTrue (R.state room.old).tells →
+        ensures damaged { IfErr result (λ stop. (length : ℕ) → stop ≡ FeedStop.Damaged length →
+            IsTrue (R.state room.old).tells →
             found self.old (R.state room.old).capture.bytes ≡ stopped (Damaged length)) }
         ensures too_long { IsErrOf result FeedStop.TooLong ↔ (self.old.limit ≤ self.old.taken) }
         ensures unread { IsErrOf result FeedStop.TooLong → R.state room.new ≡ R.state room.old }
@@ -163,7 +173,8 @@ impl Feed {
         ensures rose { IsErrOf result FeedStop.Fault →
             Rose (R.state room.old).capture.faults (R.state room.new).capture.faults }
         ensures fault { IsErrOf result FeedStop.Fault → IsTrue (R.state room.old).tells →
-            HoldsNone self.old.is_big self.old.limit self.old.taken (pending self.old.block ++ (R.state room.old).capture.bytes) (R.state room.new).capture.bytes }
+            HoldsNone self.old.is_big self.old.limit self.old.taken
+            (pending self.old.block ++ (R.state room.old).capture.bytes) (R.state room.new).capture.bytes }
         ensures stays { StaysOpen Capture (R.state room.old) (R.state room.new) }
         ensures only { OnlyAt Capture (R.state room.old) (R.state room.new) }
     {
@@ -206,29 +217,36 @@ impl Feed {
         }
     }
 
-    /// The next record, whose bytes are lent until the feed is used again; `None` where the input ended
-    /// behind a whole record or the header.
+    /// The next record, whose bytes are lent until the feed is used again; `None` where the input
+    /// ended behind a whole record or the header.
     ///
-    /// `Cut`: the input ended within a record. `Damaged`: a captured length is above 262,144. `TooLong`:
-    /// the header and the records so far make the limit or more; nothing is read then. `Fault`: a read
-    /// failed, and the bytes read so far hold no further whole record. `NotCapture` never comes.
+    /// `Cut`: the input ended within a record. `Damaged`: a captured length is above 262,144.
+    /// `TooLong`: the header and the records so far make the limit or more; nothing is read then.
+    /// `Fault`: a read failed, and the bytes read so far hold no further whole record. `NotCapture`
+    /// never comes.
     pub fn next<'f, R: Room>(&'f mut self, room: &mut R) -> Result<Option<Rec<'f>>, FeedStop>
         requires live { IsTrue self.old.is_live }
         requires ready { IsReadyIn Capture (R.state room.old) }
         ensures* after { sem 𝓛 (Rests the_row self.entry (λ new.
             ((new.limit ≡ self.old.limit) × (new.is_big ≡ self.old.is_big)) ×
             ((IfOk result (λ got. new.is_live ≡ is_some got) × OnErr result (new.is_live ≡ false)) ×
-            ((IfOk result (λ got. IfNone got (new.taken ≡ self.old.taken)) × OnErr result (new.taken ≡ self.old.taken)) ×
-            IfOk result (λ got. IfSome got (λ rec. (new.taken ≡ self.old.taken + (16 + rec.captured)) × (IsTrue (R.state room.old).tells →
+            ((IfOk result (λ got. IfNone got (new.taken ≡ self.old.taken)) ×
+            OnErr result (new.taken ≡ self.old.taken)) ×
+            IfOk result (λ got. IfSome got (λ rec.
+            (new.taken ≡ self.old.taken + (16 + rec.captured)) ×
+            (IsTrue (R.state room.old).tells →
             Gives self.old.is_big self.old.limit self.old.taken rec.bytes.now rec.captured
-            (pending self.old.block ++ (R.state room.old).capture.bytes) (pending new.block ++ (R.state room.new).capture.bytes)))))))) }
+            (pending self.old.block ++ (R.state room.old).capture.bytes)
+            (pending new.block ++ (R.state room.new).capture.bytes)))))))) }
         ensures below { IfOk result (λ got. OnSome got (self.old.taken < self.old.limit)) }
-        ensures lent { IfOk result (λ got. IfSome got (λ rec. length rec.bytes.now ≡ min rec.captured 2048)) }
+        ensures lent { IfOk result (λ got. IfSome got (λ rec.
+            length rec.bytes.now ≡ min rec.captured 2048)) }
         ensures whole { IfOk result (λ got. IfNone got (IsTrue (R.state room.old).tells →
             found self.old (R.state room.old).capture.bytes ≡ stopped Whole)) }
         ensures cut { IsErrOf result FeedStop.Cut → IsTrue (R.state room.old).tells →
             found self.old (R.state room.old).capture.bytes ≡ stopped Cut }
-        ensures damaged { IfErr result (λ stop. (length : ℕ) → stop ≡ FeedStop.Damaged length → IsTrue (R.state room.old).tells →
+        ensures damaged { IfErr result (λ stop. (length : ℕ) → stop ≡ FeedStop.Damaged length →
+            IsTrue (R.state room.old).tells →
             found self.old (R.state room.old).capture.bytes ≡ stopped (Damaged length)) }
         ensures too_long { IsErrOf result FeedStop.TooLong ↔ (self.old.limit ≤ self.old.taken) }
         ensures unread { IsErrOf result FeedStop.TooLong → R.state room.new ≡ R.state room.old }
@@ -237,7 +255,8 @@ impl Feed {
         ensures rose { IsErrOf result FeedStop.Fault →
             Rose (R.state room.old).capture.faults (R.state room.new).capture.faults }
         ensures fault { IsErrOf result FeedStop.Fault → IsTrue (R.state room.old).tells →
-            HoldsNone self.old.is_big self.old.limit self.old.taken (pending self.old.block ++ (R.state room.old).capture.bytes) (R.state room.new).capture.bytes }
+            HoldsNone self.old.is_big self.old.limit self.old.taken
+            (pending self.old.block ++ (R.state room.old).capture.bytes) (R.state room.new).capture.bytes }
         ensures stays { StaysOpen Capture (R.state room.old) (R.state room.new) }
         ensures only { OnlyAt Capture (R.state room.old) (R.state room.new) }
     {

@@ -1,7 +1,6 @@
-ghost use Rattle.std.specs.Prelude.{◌≡◌, ◌^◌, ◌<◌, ◌≤◌, IsTrue};
-ghost use Rattle.room_io.specs.Room.{IsReadyIn};
-ghost use Rattle.room_io.specs.declared.room.Slot.TheVariants.{Capture};
+ghost use Rattle.std.specs.Prelude.{◌^◌, ◌<◌, ◌≤◌};
 
+use crate::lending::lent_lengths;
 use crate::{Feed, FeedStop, put_header, put_record};
 use arrayvec::ArrayVec;
 use room_io::{MemRoom, Room, Slot};
@@ -146,29 +145,6 @@ fn a_fault_comes_behind_the_whole_records(rt: HostRuntime) -> Result<(), Fail> {
     Ok(())
 }
 
-/// The lent lengths of the next two records.
-fn two_lengths<R: Room>(feed: &mut Feed, room: &mut R) -> Option<(usize, usize)>
-    requires live { IsTrue feed.old.is_live }
-    requires ready { IsReadyIn Capture (R.state room.old) }
-{
-    let first = match feed.next(room) {
-        Ok(got) => match got {
-            Some(rec) => rec,
-            None => return None,
-        },
-        Err(_) => return None,
-    };
-    let first_length = first.bytes.len();
-    let second = match feed.next(room) {
-        Ok(got) => match got {
-            Some(rec) => rec,
-            None => return None,
-        },
-        Err(_) => return None,
-    };
-    Some((first_length, second.bytes.len()))
-}
-
 #[test]
 fn at_most_2048_bytes_are_lent(rt: HostRuntime) -> Result<(), Fail> {
     let mut room = MemRoom::new(rt.alloc(), 0)?;
@@ -177,7 +153,7 @@ fn at_most_2048_bytes_are_lent(rt: HostRuntime) -> Result<(), Fail> {
     let mut feed = Feed::new(rt.alloc(), 10_000)?;
     feed.begin(&mut room)?;
     assert!(rt; feed.live());
-    assert_eq!(rt; two_lengths(&mut feed, &mut room), Some((2048, 5)));
+    assert_eq!(rt; lent_lengths(&mut feed, &mut room), Some((2048, 5)));
     assert_eq!(rt; feed.taken(), 24 + 3016 + 21);
     Ok(())
 }

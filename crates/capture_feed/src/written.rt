@@ -5,13 +5,14 @@ ghost use Rattle.capture_feed.specs.Written.{header_bytes, record_bytes};
 
 use arrayvec::ArrayVec;
 
-/// The magic number of nanoseconds with the lowest byte first, version 2.4, no time zone and no accuracy,
-/// a snap length of 65535, and the link type of Ethernet.
+/// The magic number of nanoseconds with the lowest byte first, version 2.4, no time zone and no
+/// accuracy, a snap length of 65535, and the link type of Ethernet.
 static HEADER_BYTES: [u8; 24] = [
     0x4d, 0x3c, 0xb2, 0xa1, 2, 0, 4, 0, 0, 0, 0, 0, 0, 0, 0, 0, 0xff, 0xff, 0, 0, 1, 0, 0, 0,
 ];
 
-/// Appends the header of a written capture: pcap version 2.4, lowest byte first, nanoseconds, Ethernet.
+/// Appends the header of a written capture: pcap version 2.4, lowest byte first, nanoseconds,
+/// Ethernet.
 ///
 /// The 24 bytes must fit.
 pub fn put_header(out: &mut ArrayVec<u8, 1064>)
@@ -30,8 +31,9 @@ fn put_number(out: &mut ArrayVec<u8, 1064>, number: u32)
     let _ = out.try_extend_from_slice(&number.to_le_bytes());
 }
 
-/// Appends one record of a written capture: the time in seconds since 1970 and nanoseconds, the frame's
-/// length as captured and as original length, each as four bytes with the lowest first, and the frame.
+/// Appends one record of a written capture: the time in seconds since 1970 and nanoseconds, the
+/// frame's length as captured and as original length, each as four bytes with the lowest first, and
+/// the frame.
 ///
 /// The 16 bytes and the frame must fit.
 pub fn put_record(out: &mut ArrayVec<u8, 1064>, seconds: u32, nanos: u32, frame: &[u8])

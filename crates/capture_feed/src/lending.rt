@@ -1,0 +1,31 @@
+ghost use Rattle.std.specs.Prelude.{◌≤◌, IsTrue, IfSome};
+ghost use Rattle.room_io.specs.Room.{IsReadyIn};
+ghost use Rattle.room_io.specs.declared.room.Slot.TheVariants.{Capture};
+
+use crate::feed::Feed;
+use room_io::Room;
+
+/// How many bytes the next two records lend. A record is let go before the next call of the feed:
+/// the borrow checker refuses to keep one longer, since its bytes may be overwritten then.
+pub fn lent_lengths<R: Room>(feed: &mut Feed, room: &mut R) -> Option<(usize, usize)>
+    requires live { IsTrue feed.old.is_live }
+    requires ready { IsReadyIn Capture (R.state room.old) }
+    ensures { IfSome result (λ lengths. (lengths.0 ≤ 2048) × (lengths.1 ≤ 2048)) }
+{
+    let first = match feed.next(room) {
+        Ok(got) => match got {
+            Some(rec) => rec,
+            None => return None,
+        },
+        Err(_) => return None,
+    };
+    let first_length = first.bytes.len();
+    let second = match feed.next(room) {
+        Ok(got) => match got {
+            Some(rec) => rec,
+            None => return None,
+        },
+        Err(_) => return None,
+    };
+    Some((first_length, second.bytes.len()))
+}
