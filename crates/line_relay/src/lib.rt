@@ -14,6 +14,8 @@ mod events;
 mod front;
 mod laws;
 mod line;
+#[cfg(test)]
+mod tests;
 
 pub use laws::show_untaken_keeps;
 pub use line::{Burst, Line};
