@@ -3,3 +3,4 @@ pub mod OneRecord
 pub mod Steps
 pub mod RecordBytes
 pub mod Beginning
+pub mod ReadsBack

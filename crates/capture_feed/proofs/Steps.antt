@@ -86,7 +86,7 @@ body_of n text more long =
 behind_of : (n : ℕ) (text more : List ℕ) → length text ≡ 16 + n → drop (16 + n) (text ++ more) ≡ more
 behind_of n text more long = ap (λ k. drop k (text ++ more)) (sym long) ∙ drop-append_seam text more
 
-one_record : (is_big : Bool) (limit taken n : ℕ) (text more : List ℕ) → taken < limit → length text ≡ 16 + n → captured is_big text ≡ n → n ≤ 262144 → records_from is_big limit taken (text ++ more) ≡ add (drop 16 text) (records_from is_big limit (taken + (16 + n)) more)
+pub one_record : (is_big : Bool) (limit taken n : ℕ) (text more : List ℕ) → taken < limit → length text ≡ 16 + n → captured is_big text ≡ n → n ≤ 262144 → records_from is_big limit taken (text ++ more) ≡ add (drop 16 text) (records_from is_big limit (taken + (16 + n)) more)
 one_record is_big limit taken n text more below long n_is small =
     let same : captured is_big (text ++ more) ≡ n = captured-front is_big text more (omega arith) ∙ n_is in
     let len = length-append text more in
