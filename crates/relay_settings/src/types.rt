@@ -54,17 +54,17 @@ pub struct LineSettings {
     pub i0_min: u32,
     /// The least 3I2 of a direction by negative sequence.
     pub dir_i2: u32,
-    /// The least 3U1 that polarises without memory.
+    /// The 3U1 below which the polarising voltage comes from memory.
     pub mem_u: u32,
     /// How long a remembered voltage polarises.
     pub mem_ms: u32,
     /// How long a trip lasts at least.
     pub trip_min_ms: u32,
-    /// The phase current below which a pole is open.
+    /// The phase current below which the line is dead.
     pub open_i: u32,
-    /// How long all poles are open before a trip ends.
+    /// How long the line is dead before a trip ends.
     pub open_ms: u32,
-    /// The filter of the exponential offset in currents.
+    /// The mimic filter; where it is missing, samples are used as they are.
     pub mimic: Option<Mimic>,
     /// Blocking by power swing.
     pub swing: Option<SwingSettings>,
@@ -78,7 +78,8 @@ pub struct LineSettings {
     pub zones: ArrayVec<ZoneSettings, 5>,
 }
 
-/// The weights of the current's newest and last sample in the mimic filter.
+/// The mimic filter: a filtered value is `a` times the value less `b` times the one before, divided by
+/// 1024 and rounded down.
 #[derive(Clone, Copy, PartialEq, Eq, Debug)]
 pub struct Mimic {
     pub a: i64,
@@ -96,9 +97,9 @@ pub struct SwingSettings {
     pub inner_r: i64,
     /// The inner blinder's reactance, below the outer one.
     pub inner_x: i64,
-    /// How long a swing is between the blinders at least.
+    /// How long the impedance stays between the blinders before a swing is declared.
     pub pass_ms: u32,
-    /// How long a swing blocks at most.
+    /// How long a declared swing blocks at most.
     pub max_ms: u32,
     /// The share of 3I2 in 3I1 from which the line is unbalanced.
     pub i2_share: u32,
@@ -107,20 +108,20 @@ pub struct SwingSettings {
 /// The fuse rule.
 #[derive(Clone, Copy, PartialEq, Eq, Debug)]
 pub struct FuseSettings {
-    /// The least 3U2 of a blown fuse.
+    /// The least 3U2 of a suspect sample.
     pub u2_min: u32,
-    /// The 3I2 of a fault.
+    /// The 3I2 from which there is a fault, and no blown fuse.
     pub i2_max: u32,
-    /// How long the rule's condition lasts before it blocks for good.
+    /// How long a suspect sample blocks.
     pub hold_ms: u32,
 }
 
 /// The load rule.
 #[derive(Clone, Copy, PartialEq, Eq, Debug)]
 pub struct LoadSettings {
-    /// The least resistance of the load.
+    /// The least resistance of the load, in either direction.
     pub r: i64,
-    /// The most reactance of the load, as a share of its resistance.
+    /// The most reactance of the load for each ohm of its resistance.
     pub slope: i64,
 }
 
@@ -185,13 +186,13 @@ pub enum Shape {
 /// A quadrilateral.
 #[derive(Clone, Copy, PartialEq, Eq, Debug)]
 pub struct QuadSettings {
-    /// The reach along the resistance.
+    /// The reach along the resistance, to either side.
     pub reach_r: i64,
     /// The reach along the reactance.
     pub reach_x: i64,
-    /// The slope of the reactance line.
+    /// How far the top falls for each ohm of resistance.
     pub tilt: i64,
-    /// The slope of the left side.
+    /// How far the sides lean for each ohm of reactance.
     pub slope: i64,
     /// The reach behind the relay.
     pub back_x: i64,
