@@ -49,6 +49,7 @@ impl Line {
         requires settings { IsLine s.now }
         ensures { IfOk result (λ line. StandsFor common.now (plain_line s.now) [] line × (last_of line ≡ None)) }
     {
+        // What a line keeps has a fixed size, so it takes no memory.
         let _ = alloc;
         Ok(Line {
             common: *common,
@@ -72,6 +73,7 @@ impl Line {
         ensures name { name_of self.new ≡ name_of self.old }
         ensures cost { steps.new ≤ steps.old + 34 }
     {
+        // No history is looked at, and no zone is tested.
         let _ = steps;
         let outcome = self.front.take(a);
         let at = moment(&self.common, self.front.last());
