@@ -1,0 +1,14 @@
+pub mod Endings
+pub mod Ends
+pub mod Words
+pub mod Asking
+pub mod Unbuilt
+pub mod Output
+pub mod Parts
+pub mod Run
+pub mod Files
+pub mod Answers
+pub mod Headline
+pub mod Making
+pub mod Steps
+pub mod Alone

@@ -1,0 +1,75 @@
+-- What a run without faults and with enough memory does.
+use Rattle.std.specs.Prelude.{ℕ, ◌+◌, ◌^◌, Bool, true, false, if◌then◌else◌, List, [], ◌∷◌, ◌++◌, length, map, sum, Option, None, Some, unwrap_or, codes, Result, Ok, Err}
+use Rattle.std.specs.Fmt.{decimal}
+use Rattle.room_io.specs.Room.{content}
+use Rattle.room_io.specs.declared.room.Slot.{Slot}
+use Rattle.room_io.specs.declared.room.Slot.TheVariants.{Goose}
+use Rattle.capture_feed.specs.Capture.{Records, Stop, Whole, Damaged, Cut, TooLong, records}
+use Rattle.capture_feed.specs.Written.{header_bytes}
+use Rattle.relay_settings.specs.Settings.{PlainLine, PlainSettings}
+use Rattle.settings_read.specs.Walk.{Answer, Refusal}
+use Rattle.settings_read.specs.Accepted.{accepted}
+use Rattle.relay_tool.specs.Endings.{Ending, done, usage, refused, not_capture, cut, damaged, too_long}
+use Rattle.relay_tool.specs.Words.{Names, Asked, replay, check}
+use Rattle.relay_tool.specs.Unbuilt.{replayable}
+use Rattle.relay_tool.specs.Output.{Item, out}
+
+pub record Run : Type 0 where
+  pub ending : Ending
+  -- what is written to standard output
+  pub answer : List ℕ
+  -- what is written to the two output files, in this order
+  pub writes : List Item
+
+-- a run that writes nothing
+abbrev pub ended : Ending → Run
+ended ending = record { ending = ending; answer = []; writes = [] }
+
+abbrev pub refused_run : Refusal → Run
+refused_run refusal = ended (refused refusal.number refusal.key)
+
+-- how a run ends where the capture stops behind so many records
+abbrev pub ending_at : Stop → ℕ → Ending
+ending_at Whole records = done
+ending_at Cut records = cut records
+ending_at (Damaged size) records = damaged records size
+ending_at TooLong records = too_long records
+
+-- all that is written of a capture with these records
+abbrev pub all_writes : PlainSettings → List (List ℕ) → List Item
+all_writes settings bodies = record { slot = Goose; line = None; bytes = header_bytes } ∷ out settings bodies
+
+-- at most 2 ^ 40 bytes of a capture are read
+abbrev pub most_capture : ℕ
+most_capture = 2 ^ 40
+
+abbrev pub records_run : PlainSettings → Option Records → Run
+records_run settings None = ended not_capture
+records_run settings (Some found) = record {
+  ending = ending_at found.stop (length found.bodies);
+  answer = [];
+  writes = all_writes settings found.bodies;
+}
+
+abbrev pub replay_by : Answer PlainSettings → List ℕ → Run
+replay_by (Ok settings) capture = records_run settings (records capture most_capture)
+replay_by (Err refusal) capture = refused_run refusal
+
+abbrev pub zones_in : List PlainLine → ℕ
+zones_in lines = sum (map (λ line. length line.zones) lines)
+
+abbrev pub check_text : PlainSettings → List ℕ
+check_text settings = codes "ok " ++ decimal (length settings.lines) ++ codes " lines " ++ decimal (zones_in settings.lines) ++ codes " zones\n"
+
+abbrev pub check_by : Answer PlainSettings → Run
+check_by (Ok settings) = record { ending = done; answer = check_text settings; writes = [] }
+check_by (Err refusal) = refused_run refusal
+
+-- an input whose name has no content counts as empty
+abbrev pub content_of : List (List ℕ × List ℕ) → List ℕ → List ℕ
+content_of contents name = unwrap_or (content contents name) []
+
+abbrev pub run_of : Option Asked → List (List ℕ × List ℕ) → Run
+run_of None contents = ended usage
+run_of (Some (check settings)) contents = check_by (accepted (content_of contents settings))
+run_of (Some (replay names)) contents = replay_by (replayable (content_of contents names.settings)) (content_of contents names.capture)

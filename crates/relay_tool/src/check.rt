@@ -1,0 +1,57 @@
+//! `check SETTINGS`: whether a settings file would be accepted.
+ghost use Rattle.std.specs.Prelude.{◌≡◌, ◌+◌, ◌≤◌, ◌<◌, ◌^◌, ◌++◌, length, IsTrue, map, sum};
+ghost use Rattle.std.specs.Fmt.{decimal};
+ghost use Rattle.room_io.specs.Room.{IsUnused};
+ghost use Rattle.relay_settings.specs.Settings.{plain_settings, plain_lines};
+ghost use Rattle.relay_settings.specs.Ranges.{InRange};
+ghost use Rattle.relay_tool.specs.Ends.{ending_of};
+ghost use Rattle.relay_tool.specs.Run.{check_text, zones_in};
+ghost use Rattle.relay_tool.specs.Steps.{Checks};
+
+use crate::end::End;
+use crate::note::Note;
+use crate::settings::accept_settings;
+use relay_settings::{LineSettings, Settings};
+use room_io::{Room, Slot, write_whole};
+use std::alloc::Global;
+
+/// Reads the settings, and writes how many lines and zones they have to standard output.
+pub fn check<R: Room>(alloc: Global, name: &str, room: &mut R) -> End
+    requires unused { IsUnused (R.state room.old) }
+    requires short { length name.now ≤ 1024 }
+    ensures { Checks name.now (R.state room.old) (R.state room.new) (ending_of result) }
+{
+    let settings = match accept_settings(alloc, name, room) {
+        Ok(settings) => settings,
+        Err(end) => return end,
+    };
+    let answer = answer_of(&settings);
+    match write_whole(room, Slot::Answer, answer.as_slice()) {
+        Ok(()) => End::Done,
+        Err(_) => End::Fault(Slot::Answer),
+    }
+}
+
+/// How many zones the lines have in all.
+fn zones_of(lines: &[LineSettings]) -> u64
+    requires { length lines.now ≤ 16 }
+    ensures { result ≡ zones_in (plain_lines lines.now) }
+{
+    let mut zones: u64 = 0;
+    for line in lines {
+        zones += line.zones.len() as u64;
+    }
+    zones
+}
+
+fn answer_of(settings: &Settings) -> Note
+    requires { InRange settings.now }
+    ensures { result.items ≡ check_text (plain_settings settings.now) }
+{
+    let mut answer = crate::note::text(b"ok ");
+    crate::note::put_number(&mut answer, settings.lines.len() as u64);
+    crate::note::put(&mut answer, b" lines ");
+    crate::note::put_number(&mut answer, zones_of(settings.lines.as_slice()));
+    crate::note::put(&mut answer, b" zones\n");
+    answer
+}

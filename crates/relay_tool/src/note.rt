@@ -1,0 +1,122 @@
+//! The note that tells how a run ended.
+ghost use Rattle.std.specs.Prelude.{◌≡◌, ◌+◌, ◌≤◌, ◌++◌, length, codes};
+ghost use Rattle.std.specs.Fmt.{decimal};
+ghost use Rattle.relay_tool.specs.Endings.{note_of as note_of_ending, slot_text as text_of_slot, refused, cut, damaged, too_long, fault};
+ghost use Rattle.relay_tool.specs.Ends.{ending_of};
+
+use crate::end::End;
+use crate::unbuilt::key_text;
+use arrayvec::ArrayVec;
+use room_io::Slot;
+
+/// A note: at most 160 bytes, ended by a newline where it isn't empty.
+pub type Note = ArrayVec<u8, 160>;
+
+pub fn put(out: &mut Note, text: &[u8])
+    requires { length out.old.items + length text.now ≤ 160 }
+    ensures bytes { out.new.items ≡ out.old.items ++ text.now }
+    ensures long { length out.new.items ≤ length out.old.items + length text.now }
+{
+    let _ = out.try_extend_from_slice(text);
+}
+
+pub fn put_number(out: &mut Note, number: u64)
+    requires { length out.old.items + 20 ≤ 160 }
+    ensures bytes { out.new.items ≡ out.old.items ++ decimal number }
+    ensures long { length out.new.items ≤ length out.old.items + 20 }
+{
+    relay_num::put_decimal(out, number);
+}
+
+pub fn text(words: &[u8]) -> Note
+    requires { length words.now ≤ 160 }
+    ensures { result.items ≡ words.now }
+{
+    let mut note = ArrayVec::new();
+    put(&mut note, words);
+    note
+}
+
+fn refused(number: u8, key: &[u8]) -> Note
+    requires { length key.now ≤ 64 }
+    ensures { result.items ≡ note_of_ending (refused number key.now) }
+{
+    let mut note = text(b"settings refused ");
+    put_number(&mut note, u64::from(number));
+    put(&mut note, b" ");
+    put(&mut note, key);
+    put(&mut note, b"\n");
+    note
+}
+
+fn cut(records: u64) -> Note
+    ensures { result.items ≡ note_of_ending (cut records) }
+{
+    let mut note = text(b"capture cut after ");
+    put_number(&mut note, records);
+    put(&mut note, b" records\n");
+    note
+}
+
+fn damaged(records: u64, size: u32) -> Note
+    ensures { result.items ≡ note_of_ending (damaged records size) }
+{
+    let mut note = text(b"capture damaged after ");
+    put_number(&mut note, records);
+    put(&mut note, b" records length ");
+    put_number(&mut note, u64::from(size));
+    put(&mut note, b"\n");
+    note
+}
+
+fn too_long(records: u64) -> Note
+    ensures { result.items ≡ note_of_ending (too_long records) }
+{
+    let mut note = text(b"capture too long after ");
+    put_number(&mut note, records);
+    put(&mut note, b" records\n");
+    note
+}
+
+fn slot_text(slot: Slot) -> &'static [u8]
+    ensures text { result.now ≡ text_of_slot slot }
+    ensures long { length result.now ≤ 8 }
+{
+    match slot {
+        Slot::Settings => b"settings",
+        Slot::Capture => b"capture",
+        Slot::Goose => b"goose",
+        Slot::Log => b"log",
+        Slot::Note => b"note",
+        Slot::Answer => b"answer",
+    }
+}
+
+fn fault(slot: Slot) -> Note
+    ensures { result.items ≡ note_of_ending (fault slot) }
+{
+    let mut note = text(b"fault ");
+    put(&mut note, slot_text(slot));
+    put(&mut note, b"\n");
+    note
+}
+
+/// The note.
+pub fn note_of(end: &End) -> Note
+    ensures { result.items ≡ note_of_ending (ending_of end.now) }
+{
+    match end {
+        End::Done => ArrayVec::new(),
+        End::Usage => text(
+            b"usage: relay replay SETTINGS CAPTURE GOOSE LOG or check SETTINGS\n",
+        ),
+        End::Refused { number, key } => refused(*number, key.as_str().as_bytes()),
+        End::Unbuilt(unbuilt) => refused(13, key_text(*unbuilt)),
+        End::NotCapture => text(b"not a capture\n"),
+        End::Cut { records } => cut(*records),
+        End::Damaged { records, size } => damaged(*records, *size),
+        End::TooLong { records } => too_long(*records),
+        End::Fault(slot) => fault(*slot),
+        End::NoMemory => text(b"no memory\n"),
+    }
+}

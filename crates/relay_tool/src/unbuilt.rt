@@ -1,0 +1,70 @@
+//! What accepted settings may ask for and `replay` doesn't do yet. Each row goes with the part that
+//! builds it.
+ghost use Rattle.std.specs.Prelude.{◌≡◌, ◌∷◌, [], IfOk, IfErr, Some, None};
+ghost use Rattle.relay_tool.specs.Unbuilt.{unbuilt_of, unbuilt_in, key_text as key_text_of};
+ghost use Rattle.relay_settings.specs.Settings.{plain_line, plain_lines};
+ghost use Rattle.relay_settings.specs.Ranges.{InRange, IsLine};
+
+use relay_settings::{LineSettings, Settings};
+
+/// A key that `replay` can't follow yet.
+#[derive(Clone, Copy, Debug, PartialEq, Eq)]
+pub enum Unbuilt {
+    /// More than one line.
+    Lines,
+    Mimic,
+    Swing,
+    Fuse,
+    Load,
+    /// Any zone.
+    Zones,
+}
+
+/// The path of the key.
+pub fn key_text(unbuilt: Unbuilt) -> &'static [u8]
+    ensures { result.now ≡ key_text_of unbuilt }
+{
+    match unbuilt {
+        Unbuilt::Lines => b"line",
+        Unbuilt::Mimic => b"line.1.mimic",
+        Unbuilt::Swing => b"line.1.swing",
+        Unbuilt::Fuse => b"line.1.fuse",
+        Unbuilt::Load => b"line.1.load",
+        Unbuilt::Zones => b"line.1.zone",
+    }
+}
+
+/// The first key of this line, in the order of the settings file, that isn't built yet.
+fn unbuilt_in_line(line: &LineSettings) -> Option<Unbuilt>
+    ensures { result ≡ unbuilt_in (plain_line line.now) }
+{
+    if line.mimic.is_some() {
+        Some(Unbuilt::Mimic)
+    } else if line.swing.is_some() {
+        Some(Unbuilt::Swing)
+    } else if line.fuse.is_some() {
+        Some(Unbuilt::Fuse)
+    } else if line.load.is_some() {
+        Some(Unbuilt::Load)
+    } else if line.zones.is_empty() {
+        None
+    } else {
+        Some(Unbuilt::Zones)
+    }
+}
+
+/// The one line of settings that are built whole, or the first key that isn't.
+pub fn built_line(settings: &Settings) -> Result<&LineSettings, Unbuilt>
+    requires { InRange settings.now }
+    ensures built { IfOk result (λ line. (unbuilt_of (plain_lines settings.now.lines.items) ≡ None) × (settings.now.lines.items ≡ line.now ∷ [])) }
+    ensures range { IfOk result (λ line. IsLine line.now) }
+    ensures unbuilt { IfErr result (λ key. unbuilt_of (plain_lines settings.now.lines.items) ≡ Some key) }
+{
+    match settings.lines.as_slice() {
+        [line] => match unbuilt_in_line(line) {
+            None => Ok(line),
+            Some(key) => Err(key),
+        },
+        _ => Err(Unbuilt::Lines),
+    }
+}
