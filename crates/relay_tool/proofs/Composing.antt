@@ -10,7 +10,7 @@ use Rattle.relay_tool.specs.Output.{Item}
 use Rattle.relay_tool.specs.Files.{written, front, slot_after, is_slot}
 use Rattle.relay_tool.specs.Making.{OnlyWrites, Appends, StopsAt, WritesEnd, Makes}
 use Rattle.relay_tool.specs.declared.end.End.{End}
-use Rattle.relay_tool.proofs.Writing.{OnlyWrites-trans, Appends-more, Makes-nothing}
+use Rattle.relay_tool.proofs.Writing.{OnlyWrites-trans, Appends-more}
 
 pub told_on : {a b : RoomState} → OnlyWrites a b → IsTrue a.tells → IsTrue b.tells
 told_on only told = ap (λ (room : RoomState). room.tells) only.others ∙ told

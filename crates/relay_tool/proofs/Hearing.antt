@@ -1,8 +1,7 @@
 -- Loops over what is written and heard.
-use Rattle.std.proofs.Common.{◌≡◌, ℕ, ◌+◌, ◌≤◌, ◌<◌, Bool, true, false, List, [], ◌∷◌, ◌++◌, length, map, take, drop, reverse, get_or, refl, sym, ◌∙◌, ap, subst, arith, append_assoc, append-nil}
-use Rattle.std.specs.Prelude.{Ok, Err, Result, Option, None, Some, OnOk, filter, if◌then◌else◌}
-use Rattle.std.specs.Str.{bytes_eq}
-use Rattle.std.proofs.lemmas.List.{take_more, take_all, drop_more, take-append-drop, map-append, reverse-append}
+use Rattle.std.proofs.Common.{◌≡◌, ℕ, ◌+◌, ◌≤◌, ◌<◌, true, false, List, [], ◌∷◌, ◌++◌, length, map, take, drop, reverse, get_or, refl, sym, ◌∙◌, ap, subst, append-nil}
+use Rattle.std.specs.Prelude.{Ok, Err, Result, None, OnOk}
+use Rattle.std.proofs.lemmas.List.{take_more, take_all, drop_more, take-append-drop, map-append}
 use Rattle.sample_windows.specs.Windows.{in_order}
 use Rattle.sample_windows.proofs.WindowLemmas.{past_next}
 use Rattle.room_io.specs.Room.{RoomState}
@@ -17,7 +16,7 @@ use Rattle.event_record.specs.declared.event.Event.TheVariants.{Malformed}
 use Rattle.event_record.specs.Line.{line_text}
 use Rattle.line_relay.specs.Lines.{StandsFor}
 use Rattle.line_relay.specs.declared.line.Line.{Line}
-use Rattle.relay_tool.specs.Output.{Item, event_item, malformed_item, owns, own, burst_items, heard_items, frame_items, sets_of}
+use Rattle.relay_tool.specs.Output.{Item, event_item, owns, own, burst_items, heard_items, frame_items, sets_of}
 use Rattle.relay_tool.specs.Making.{Makes}
 use Rattle.relay_tool.specs.Alone.{alone, Hears}
 use Rattle.relay_tool.specs.declared.end.End.{End}

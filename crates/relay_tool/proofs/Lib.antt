@@ -3,3 +3,8 @@ pub mod Composing
 pub mod Parting
 pub mod Hearing
 pub mod Treating
+pub mod Opening
+pub mod Stages
+pub mod Ending
+pub mod Checking
+pub mod Heading

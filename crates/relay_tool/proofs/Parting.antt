@@ -1,6 +1,6 @@
 -- The scalar output, taken apart by records and by lines.
-use Rattle.std.proofs.Common.{◌≡◌, ℕ, zero, suc, ◌+◌, Bool, true, false, List, [], ◌∷◌, ◌++◌, length, map, reverse, refl, sym, ◌∙◌, ap, ap₂, arith, append_assoc, append-nil, inl, inr}
-use Rattle.std.specs.Prelude.{filter, Option, None, Some, if◌then◌else◌}
+use Rattle.std.proofs.Common.{◌≡◌, ℕ, suc, ◌+◌, Bool, true, false, List, [], ◌∷◌, ◌++◌, length, map, reverse, refl, sym, ◌∙◌, ap, ap₂, arith, append_assoc, append-nil, inl, inr}
+use Rattle.std.specs.Prelude.{filter, if◌then◌else◌}
 use Rattle.std.specs.Str.{bytes_eq}
 use Rattle.std.proofs.lemmas.List.{reverse-append}
 use Rattle.std.proofs.lemmas.List.Elements.{filter-append}
@@ -13,8 +13,8 @@ use Rattle.relay_settings.specs.Settings.{PlainLine, PlainSettings}
 use Rattle.relay_settings.specs.declared.types.Common.{Common}
 use Rattle.line_relay.specs.Bursts.{burst}
 use Rattle.event_record.specs.declared.event.Event.{Event}
-use Rattle.relay_tool.specs.Output.{Item, event_item, malformed_item, owns, own, burst_items, solo, told_by, heard_items, reading, sets_of, frame_items, heard, items_from, out}
-use Rattle.relay_tool.specs.Parts.{is_of, part, sample_sets, IsNamedAlone, LinesAreApart, AddsItsLine, MalformedAddsItsLine}
+use Rattle.relay_tool.specs.Output.{Item, event_item, malformed_item, owns, own, burst_items, told_by, heard_items, reading, sets_of, frame_items, heard, items_from, out}
+use Rattle.relay_tool.specs.Parts.{is_of, part, sample_sets, IsNamedAlone, LinesAreApart, MalformedAddsItsLine}
 
 -- ---- by records
 
@@ -31,7 +31,7 @@ items_from-append settings number past (x ∷ xs) ys =
     let first = frame_items settings number past (reading x) in
     let next = reverse (sets_of (reading x)) ++ past in
     ap (λ rest. first ++ rest) (items_from-append settings (number + 1) next xs ys
-        ∙ ap (λ k. items_from settings (number + 1) next xs ++ items_from settings k (heard next xs) ys) (omega arith))
+    ∙ ap (λ k. items_from settings (number + 1) next xs ++ items_from settings k (heard next xs) ys) (omega arith))
     ∙ sym (append_assoc first (items_from settings (number + 1) next xs) (items_from settings (number + suc (length xs)) (heard next xs) ys))
 
 -- ---- by lines
@@ -62,7 +62,7 @@ part-told common name a older [] = refl
 part-told common name a older (line ∷ lines) =
     part-append name (if owns line a then burst_items common line (a ∷ own line older) else []) (told_by common a older lines)
     ∙ ap (λ (xs : List Item). xs ++ part name (told_by common a older lines)) (part-if name (owns line a) (burst_items common line (a ∷ own line older))
-        ∙ ap (λ (xs : List Item). if owns line a then xs else []) (part-events name line.name (burst common line (a ∷ own line older))))
+    ∙ ap (λ (xs : List Item). if owns line a then xs else []) (part-events name line.name (burst common line (a ∷ own line older))))
     ∙ elim (cases_Bool (bytes_eq line.name name)) [
       | inl same ↦ rw same (ap (λ (xs : List Item). (if owns line a then burst_items common line (a ∷ own line older) else []) ++ xs) (part-told common name a older lines))
       | inr differ ↦ rw (differ, if-none (owns line a)) (part-told common name a older lines)
@@ -98,7 +98,7 @@ pub in_order-append : {X Y : Type 0} (told : List X → List Y) (past xs ys : Li
 in_order-append told past [] ys = refl
 in_order-append told past (x ∷ xs) ys =
     ap (λ rest. told (x ∷ past) ++ rest) (in_order-append told (x ∷ past) xs ys
-        ∙ ap (λ before. in_order told (x ∷ past) xs ++ in_order told before ys) (sym (ap (λ zs. zs ++ past) (reverse-append (x ∷ []) xs) ∙ append_assoc (reverse xs) (x ∷ []) past)))
+    ∙ ap (λ before. in_order told (x ∷ past) xs ++ in_order told before ys) (sym (ap (λ zs. zs ++ past) (reverse-append (x ∷ []) xs) ∙ append_assoc (reverse xs) (x ∷ []) past)))
     ∙ sym (append_assoc (told (x ∷ past)) (in_order told (x ∷ past) xs) (in_order told (reverse (x ∷ xs) ++ past) ys))
 
 filter-reverse : {X : Type 0} (test : X → Bool) (xs : List X) → filter test (reverse xs) ≡ reverse (filter test xs)
@@ -124,10 +124,10 @@ part-records settings line number past (body ∷ bodies) only =
     let told = burst_items settings.common line in
     part-append line.name (frame_items settings number past (reading body)) (items_from settings (number + 1) (reverse sets ++ past) bodies)
     ∙ ap₂ (λ first rest. first ++ rest) (part-frame settings line number past (reading body) only)
-        (part-records settings line (number + 1) (reverse sets ++ past) bodies only
-        ∙ ap (λ before. in_order told before (own line (sample_sets bodies))) (own-reverse line sets past))
+    (part-records settings line (number + 1) (reverse sets ++ past) bodies only
+    ∙ ap (λ before. in_order told before (own line (sample_sets bodies))) (own-reverse line sets past))
     ∙ sym (ap (in_order told (own line past)) (filter-append (λ a. owns line a) sets (sample_sets bodies))
-        ∙ in_order-append told (own line past) (own line sets) (own line (sample_sets bodies)))
+    ∙ in_order-append told (own line past) (own line sets) (own line (sample_sets bodies)))
 
 pub apart : (settings : PlainSettings) (bodies : List (List ℕ)) → LinesAreApart settings bodies
 apart settings bodies line only = part-records settings line 1 [] bodies only
@@ -174,8 +174,8 @@ malformed settings before after body reason e = record {
     with_it : out settings (before ++ body ∷ after) ≡ out settings before ++ malformed_item (length before + 1) reason ∷ items_from settings (length before + 2) (heard [] before) after
     with_it = items_from-append settings 1 [] before (body ∷ after)
         ∙ ap (λ (xs : List Item). out settings before ++ xs) (ap (λ k. items_from settings k (heard [] before) (body ∷ after)) counted
-            ∙ with-malformed settings (length before + 1) (heard [] before) body reason after e
-            ∙ ap (λ k. malformed_item (length before + 1) reason ∷ items_from settings k (heard [] before) after) (omega arith))
+        ∙ with-malformed settings (length before + 1) (heard [] before) body reason after e
+        ∙ ap (λ k. malformed_item (length before + 1) reason ∷ items_from settings k (heard [] before) after) (omega arith))
 
     without_it : out settings (before ++ after) ≡ out settings before ++ items_from settings (length before + 1) (heard [] before) after
     without_it = items_from-append settings 1 [] before after ∙ ap (λ k. out settings before ++ items_from settings k (heard [] before) after) counted

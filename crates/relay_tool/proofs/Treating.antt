@@ -1,6 +1,6 @@
 -- Record after record.
-use Rattle.std.proofs.Common.{◌≡◌, ℕ, zero, suc, ◌+◌, ◌≤◌, IsTrue, Bool, true, false, List, [], ◌∷◌, ◌++◌, length, take, drop, reverse, refl, sym, ◌∙◌, ap, subst, arith, append_assoc, append-nil, length-append, length-drop}
-use Rattle.std.specs.Prelude.{Ok, Err, Result, Option, None, Some, nat_le, nat_lt, ◌==◌, ◌&&◌, if◌then◌else◌}
+use Rattle.std.proofs.Common.{◌≡◌, ℕ, ◌+◌, ◌≤◌, IsTrue, Bool, true, false, List, [], ◌∷◌, ◌++◌, length, take, drop, reverse, refl, sym, ◌∙◌, ap, subst, arith, append_assoc, append-nil, length-append, length-drop}
+use Rattle.std.specs.Prelude.{Ok, None, Some, nat_le, nat_lt, ◌==◌, ◌&&◌, if◌then◌else◌}
 use Rattle.std.proofs.lemmas.Bool.Decides.{nat_tests}
 use Rattle.room_io.specs.Room.{RoomState, SlotState, at, Rose, OnlyAt, StaysOpen}
 use Rattle.room_io.specs.declared.room.Slot.{Slot}
@@ -17,15 +17,13 @@ use Rattle.relay_settings.specs.declared.types.Common.{Common}
 use Rattle.line_relay.specs.Lines.{StandsFor}
 use Rattle.line_relay.specs.declared.line.Line.{Line}
 use Rattle.relay_tool.specs.Endings.{Ending, done, usage, refused, not_capture, cut, damaged, too_long, fault, no_memory}
-use Rattle.relay_tool.specs.Ends.{ending_of}
 use Rattle.relay_tool.specs.Output.{Item, own, reading, sets_of, frame_items, heard, items_from, out}
 use Rattle.relay_tool.specs.Run.{ending_at}
-use Rattle.relay_tool.specs.Making.{OnlyUsed, OnlyWrites, OnlyWorks, Appends, StopsAt, WritesEnd, Makes, Faults}
-use Rattle.relay_tool.specs.Steps.{Stopped, BreaksOffAt, RecordsEnd, TreatsAll}
+use Rattle.relay_tool.specs.Making.{OnlyUsed, OnlyWrites, OnlyWorks, Appends, StopsAt, WritesEnd, Faults}
+use Rattle.relay_tool.specs.Steps.{Stopped, BreaksOffAt, RecordsEnd}
 use Rattle.relay_tool.specs.Alone.{alone, halted, Hears}
-use Rattle.relay_tool.specs.declared.end.End.{End}
 use Rattle.relay_tool.proofs.Writing.{OnlyUsed-refl, OnlyUsed-trans, Appends-nothing, Appends-more}
-use Rattle.relay_tool.proofs.Composing.{told_on, StopsAt-lift}
+use Rattle.relay_tool.proofs.Composing.{StopsAt-lift}
 use Rattle.relay_tool.proofs.Parting.{heard-append, items_from-append}
 
 -- ---- rooms
@@ -105,7 +103,7 @@ heard-push bodies body = heard-append [] bodies (body ∷ [])
 -- a record before others
 pub out-split : (settings : PlainSettings) (bodies : List (List ℕ)) (body : List ℕ) (others : List (List ℕ)) →
     out settings (bodies ++ body ∷ others) ≡ out settings bodies ++ (frame_items settings (length bodies + 1) (heard [] bodies) (reading body)
-        ++ items_from settings (length bodies + 1 + 1) (reverse (sets_of (reading body)) ++ heard [] bodies) others)
+    ++ items_from settings (length bodies + 1 + 1) (reverse (sets_of (reading body)) ++ heard [] bodies) others)
 unfolding items_from
 out-split settings bodies body others =
     items_from-append settings 1 [] bodies (body ∷ others)
@@ -179,17 +177,17 @@ lifted {a} {b} {c} slot only faults = record {
   rose = let h = later_works only slot in let r : Rose (at b slot).faults (at c slot).faults = faults.rose in omega arith;
 }
 
-in-out : true ≡ false → ⊥
+pub in-out : true ≡ false → ⊥
 in-out p = cc
 
 too_long_is : (is_big : Bool) (limit taken : ℕ) (rest : List ℕ) → limit ≤ taken → records_from is_big limit taken rest ≡ stopped TooLong
 too_long_is is_big limit taken rest h =
     let long : nat_le limit taken ≡ true = grind (arith, nat_tests) in
     records-stop is_big limit taken rest TooLong (ap (λ (b : Bool). if b then Some TooLong
-        else if length rest == 0 then Some Whole
-        else if nat_le 16 (length rest) && nat_lt 262144 (captured is_big rest) then Some (Damaged (captured is_big rest))
-        else if nat_lt (length rest) (size is_big rest) then Some Cut
-        else None) long)
+    else if length rest == 0 then Some Whole
+    else if nat_le 16 (length rest) && nat_lt 262144 (captured is_big rest) then Some (Damaged (captured is_big rest))
+    else if nat_lt (length rest) (size is_big rest) then Some Cut
+    else None) long)
 
 module _ (common : Common) (settings : PlainLine) (is_big : Bool) (limit taken₀ : ℕ) (whole : List ℕ) where
   -- one record further
@@ -241,9 +239,9 @@ module _ (common : Common) (settings : PlainLine) (is_big : Bool) (limit taken�
       let read_is : sv bytes captured ≡ reading body = lent-reading 2048 captured bytes given.text refl given.long given.lent in
       let told_mid : IsTrue mid.tells = ap (λ (room : RoomState). room.tells) read.is ∙ told_now in
       let found : records_from is_big limit taken₀ whole ≡ add_all d.bodies (add body rest) =
-          ap (records_from is_big limit taken₀) (d.is ∙ ap (λ xs. d.texts ++ xs) given.is) ∙ (d.one (given.text ++ left') ∙ ap (add_all d.bodies) (given.one left')) in
+      ap (records_from is_big limit taken₀) (d.is ∙ ap (λ xs. d.texts ++ xs) given.is) ∙ (d.one (given.text ++ left') ∙ ap (add_all d.bodies) (given.one left')) in
       let items_are : frame_items s (number + 1) treated.past (sv bytes captured) ≡ frame_items s (length d.bodies + 1) (heard [] d.bodies) (reading body) =
-          ap (frame_items s (number + 1) treated.past) read_is ∙ (ap (λ p. frame_items s (number + 1) p (reading body)) d.past_is ∙ ap (λ k. frame_items s (k + 1) (heard [] d.bodies) (reading body)) d.count) in
+      ap (frame_items s (number + 1) treated.past) read_is ∙ (ap (λ p. frame_items s (number + 1) p (reading body)) d.past_is ∙ ap (λ k. frame_items s (k + 1) (heard [] d.bodies) (reading body)) d.count) in
       subst (λ (items : List Item). StopsAt slot items old new)
       (sym (ap (λ (r : Records). out s r.bodies) found ∙ out-split s d.bodies body rest.bodies))
       (StopsAt-lift (out s d.bodies) (frame_items s (length d.bodies + 1) (heard [] d.bodies) (reading body)) (items_from s (length d.bodies + 1 + 1) (reverse (sets_of (reading body)) ++ heard [] d.bodies) rest.bodies)
@@ -279,7 +277,7 @@ module _ (common : Common) (settings : PlainLine) (is_big : Bool) (limit taken�
       let d = treated.done told in
       let none : add_all d.bodies (stopped stop) ≡ record { bodies = d.bodies; stop = stop } = ap (λ bs. let r : Records = record { bodies = bs; stop = stop } in r) (append-nil d.bodies) in
       let found : records_from is_big limit taken₀ whole ≡ record { bodies = d.bodies; stop = stop } =
-          ap (records_from is_big limit taken₀) d.is ∙ (d.one left ∙ (ap (add_all d.bodies) (stops (told_works only told)) ∙ none)) in
+      ap (records_from is_big limit taken₀) d.is ∙ (d.one left ∙ (ap (add_all d.bodies) (stops (told_works only told)) ∙ none)) in
       subst (λ (r : Records). Stopped s r old new ending) (sym found) (ending_is ∙ ap (ending_at stop) d.count, Appends-before d.written read)
 
   -- a read failed where no further record stands
@@ -292,11 +290,15 @@ module _ (common : Common) (settings : PlainLine) (is_big : Bool) (limit taken�
       let d = treated.done told in
       let h = holds (told_works only told) in
       let found : (records_from is_big limit taken₀ (d.texts ++ h.front)).bodies ≡ d.bodies =
-          ap (λ (r : Records). r.bodies) (d.one h.front) ∙ (ap (λ bs. d.bodies ++ bs) h.none ∙ append-nil d.bodies) in
+      ap (λ (r : Records). r.bodies) (d.one h.front) ∙ (ap (λ bs. d.bodies ++ bs) h.none ∙ append-nil d.bodies) in
       record {
         front = d.texts ++ h.front;
         is = d.is ∙ (ap (λ xs. d.texts ++ xs) h.is ∙ sym (append_assoc d.texts h.front new.capture.bytes));
         written = subst (λ bs. Appends (out s bs) old new) (sym found) (Appends-before d.written read);
+        rest = items_from s (1 + length d.bodies) (heard [] d.bodies) (records_from is_big limit taken left).bodies;
+        more = ap (λ (r : Records). out s r.bodies) (ap (records_from is_big limit taken₀) d.is ∙ d.one left)
+            ∙ (items_from-append s 1 [] d.bodies (records_from is_big limit taken left).bodies
+            ∙ ap (λ bs. out s bs ++ items_from s (1 + length d.bodies) (heard [] d.bodies) (records_from is_big limit taken left).bodies) (sym found));
       }
 
   -- the feed stopped

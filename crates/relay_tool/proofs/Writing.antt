@@ -1,6 +1,6 @@
 -- Writes one after another.
-use Rattle.std.proofs.Common.{◌≡◌, ℕ, ◌≤◌, IsTrue, Bool, List, [], ◌∷◌, ◌++◌, take, refl, sym, ◌∙◌, ap, subst, arith, append_assoc, append-nil}
-use Rattle.std.specs.Prelude.{Ok, Err, Option, None, Some, if◌then◌else◌}
+use Rattle.std.proofs.Common.{◌≡◌, ℕ, ◌≤◌, IsTrue, List, [], ◌∷◌, ◌++◌, take, refl, sym, ◌∙◌, ap, subst, arith, append_assoc, append-nil}
+use Rattle.std.specs.Prelude.{Ok, Err, Option}
 use Rattle.room_io.specs.Room.{RoomState, SlotState, OnlyAt, StaysOpen, Rose, AppendsPart}
 use Rattle.room_io.specs.declared.room.Slot.{Slot}
 use Rattle.room_io.specs.declared.room.Slot.TheVariants.{Goose, Log}
@@ -88,6 +88,16 @@ log-made {old} {new} {bytes} line only stays later whole = record {
   all = λ told. record {
     goose = ap (λ (room : RoomState). room.goose.bytes) only.is ∙ sym (append-nil old.goose.bytes);
     log = whole told ∙ ap (λ xs. old.log.bytes ++ xs) (sym (append-nil bytes));
+  };
+  end = tt;
+}
+
+pub goose-made : {old new : RoomState} {bytes : List ℕ} (line : Option (List ℕ)) → OnlyAt Goose old new → StaysOpen Goose old new → old.goose.faults ≤ new.goose.faults → (IsTrue old.tells → new.goose.bytes ≡ old.goose.bytes ++ bytes) → Makes (record { slot = Goose; line = line; bytes = bytes } ∷ []) old new (Ok tt)
+goose-made {old} {new} {bytes} line only stays later whole = record {
+  only = goose-only only stays later;
+  all = λ told. record {
+    goose = whole told ∙ ap (λ xs. old.goose.bytes ++ xs) (sym (append-nil bytes));
+    log = ap (λ (room : RoomState). room.log.bytes) only.is ∙ sym (append-nil old.log.bytes);
   };
   end = tt;
 }

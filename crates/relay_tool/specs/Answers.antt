@@ -6,7 +6,7 @@ use Rattle.room_io.specs.declared.room.Slot.{Slot}
 use Rattle.room_io.specs.declared.room.Slot.TheVariants.{Settings, Capture, Note}
 use Rattle.capture_feed.specs.Capture.{Records, records}
 use Rattle.relay_settings.specs.Settings.{PlainSettings}
-use Rattle.relay_tool.specs.Endings.{Ending, status_of, note_of, fault, no_memory, not_capture, done}
+use Rattle.relay_tool.specs.Endings.{status_of, note_of, fault, no_memory, not_capture, done}
 use Rattle.relay_tool.specs.Words.{Names, Asked, replay, check, form}
 use Rattle.relay_tool.specs.Unbuilt.{replayable}
 use Rattle.relay_tool.specs.Run.{Run, run_of, content_of, all_writes, most_capture}

@@ -24,7 +24,7 @@ pub record IsReplayOf (words : List (List ℕ)) (settings : PlainSettings) (foun
   pub capture : records (content_of old.contents names.capture) most_capture ≡ Some found
 
 pub record IsScalarOutput (settings : PlainSettings) (found : Records) (new : RoomState) (status : ℕ) : Type 0 where
-  pub status : status ≡ status_of (ending_at found.stop (length found.bodies))
+  pub ended : status ≡ status_of (ending_at found.stop (length found.bodies))
   -- exactly the scalar definition's, byte for byte
   pub log : new.log.bytes ≡ written Log (out settings found.bodies)
   pub goose : new.goose.bytes ≡ header_bytes ++ written Goose (out settings found.bodies)

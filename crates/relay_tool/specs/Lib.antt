@@ -1,5 +1,6 @@
 pub mod Endings
 pub mod Ends
+pub mod Errors
 pub mod Words
 pub mod Asking
 pub mod Unbuilt

@@ -1,5 +1,5 @@
 -- What a part of a run writes, and how that composes.
-use Rattle.std.specs.Prelude.{◌≡◌, ℕ, ◌≤◌, IsTrue, List, ◌++◌, Option, Some, Result, OnOk, IfErr}
+use Rattle.std.specs.Prelude.{◌≡◌, ℕ, ◌≤◌, IsTrue, List, ◌++◌, Some, Result, OnOk, IfErr}
 use Rattle.room_io.specs.Room.{RoomState, SlotState, at, Rose, IsOutput, IsFile}
 use Rattle.room_io.specs.declared.room.Slot.{Slot}
 use Rattle.room_io.specs.declared.room.Slot.TheVariants.{Goose, Log}

@@ -13,7 +13,7 @@ use Rattle.event_record.specs.declared.event.Event.TheVariants.{Malformed}
 use Rattle.event_record.specs.Line.{line_text}
 use Rattle.line_relay.specs.Bursts.{burst}
 use Rattle.room_io.specs.declared.room.Slot.{Slot}
-use Rattle.room_io.specs.declared.room.Slot.TheVariants.{Goose, Log}
+use Rattle.room_io.specs.declared.room.Slot.TheVariants.{Log}
 
 -- one write of the output, and the name of the line whose part it is
 pub record Item : Type 0 where

@@ -1,8 +1,7 @@
 -- What a run without faults and with enough memory does.
-use Rattle.std.specs.Prelude.{ℕ, ◌+◌, ◌^◌, Bool, true, false, if◌then◌else◌, List, [], ◌∷◌, ◌++◌, length, map, sum, Option, None, Some, unwrap_or, codes, Result, Ok, Err}
+use Rattle.std.specs.Prelude.{ℕ, ◌+◌, ◌^◌, List, [], ◌∷◌, ◌++◌, length, Option, None, Some, unwrap_or, codes, Ok, Err}
 use Rattle.std.specs.Fmt.{decimal}
 use Rattle.room_io.specs.Room.{content}
-use Rattle.room_io.specs.declared.room.Slot.{Slot}
 use Rattle.room_io.specs.declared.room.Slot.TheVariants.{Goose}
 use Rattle.capture_feed.specs.Capture.{Records, Stop, Whole, Damaged, Cut, TooLong, records}
 use Rattle.capture_feed.specs.Written.{header_bytes}
@@ -10,7 +9,7 @@ use Rattle.relay_settings.specs.Settings.{PlainLine, PlainSettings}
 use Rattle.settings_read.specs.Walk.{Answer, Refusal}
 use Rattle.settings_read.specs.Accepted.{accepted}
 use Rattle.relay_tool.specs.Endings.{Ending, done, usage, refused, not_capture, cut, damaged, too_long}
-use Rattle.relay_tool.specs.Words.{Names, Asked, replay, check}
+use Rattle.relay_tool.specs.Words.{Asked, replay, check}
 use Rattle.relay_tool.specs.Unbuilt.{replayable}
 use Rattle.relay_tool.specs.Output.{Item, out}
 
@@ -56,7 +55,8 @@ replay_by (Ok settings) capture = records_run settings (records capture most_cap
 replay_by (Err refusal) capture = refused_run refusal
 
 abbrev pub zones_in : List PlainLine → ℕ
-zones_in lines = sum (map (λ line. length line.zones) lines)
+zones_in [] = 0
+zones_in (line ∷ lines) = length line.zones + zones_in lines
 
 abbrev pub check_text : PlainSettings → List ℕ
 check_text settings = codes "ok " ++ decimal (length settings.lines) ++ codes " lines " ++ decimal (zones_in settings.lines) ++ codes " zones\n"

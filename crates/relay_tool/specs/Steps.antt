@@ -1,12 +1,13 @@
 -- What each step of a command leaves.
-use Rattle.std.specs.Prelude.{◌≡◌, ◌⊎◌, ℕ, ◌^◌, ◌≤◌, ◌<◌, Bool, true, false, IsTrue, List, [], ◌∷◌, ◌++◌, length, take, Option, None, Some, Result, Ok, Err, OnOk, IfOk, IfErr}
+use Rattle.std.specs.Prelude.{◌≡◌, ◌⊎◌, ℕ, ◌≤◌, ◌<◌, Bool, false, IsTrue, List, [], ◌++◌, length, take, Option, None, Some, Result, Ok, Err, OnOk, IfOk, IfErr}
 use Rattle.room_io.specs.Room.{RoomState, at, Rose, OnlyAt, IsOutput, IsFile}
 use Rattle.room_io.specs.declared.room.Slot.{Slot}
 use Rattle.room_io.specs.declared.room.Slot.TheVariants.{Settings, Capture, Goose, Log, Note, Answer}
-use Rattle.capture_feed.specs.Capture.{Records, records, records_from, order}
+use Rattle.capture_feed.specs.Capture.{Records, records, records_from}
 use Rattle.capture_feed.specs.Block.{pending}
+use Rattle.capture_feed.specs.Begins.{Begins}
 use Rattle.capture_feed.specs.declared.feed.Feed.{Feed}
-use Rattle.relay_settings.specs.Settings.{PlainLine, PlainSettings, plain_settings}
+use Rattle.relay_settings.specs.Settings.{PlainSettings, plain_settings}
 use Rattle.relay_settings.specs.Ranges.{InRange}
 use Rattle.relay_settings.specs.declared.types.Settings.{Settings as SettingsRead}
 use Rattle.settings_read.specs.Walk.{refused as refusal}
@@ -42,13 +43,6 @@ pub record ReadsSettings (name : List ℕ) (old new : RoomState) (result : Resul
   pub accepted : IfOk result (λ s. InRange s × (IsTrue old.tells → accepted (content_of old.contents name) ≡ Ok (plain_settings s)))
   pub end : IfErr result (λ e. SettingsEnd name old new (ending_of e))
 
--- the header of a capture was taken, and this stands behind it
-pub record IsBegun (is_big : Bool) (whole behind : List ℕ) : Type 0 where
-  pub header : List ℕ
-  pub long : length header ≡ 24
-  pub is : whole ≡ header ++ behind
-  pub known : order header ≡ Some is_big
-
 -- why the capture ends a run
 abbrev pub CaptureEnd : List ℕ → RoomState → RoomState → Ending → Type 0
 CaptureEnd name old new not_capture = IsTrue old.tells → records (content_of old.contents name) most_capture ≡ None
@@ -69,7 +63,7 @@ pub record OpensCapture (name : List ℕ) (old new : RoomState) (feed : Feed) (r
   pub later : old.capture.faults ≤ new.capture.faults
   pub ready : OnOk result (IsTrue new.capture.is_ready)
   pub live : OnOk result (IsTrue feed.is_live × (feed.limit ≡ most_capture) × (feed.taken ≡ 24))
-  pub begun : OnOk result (IsTrue old.tells → IsBegun feed.is_big (content_of old.contents name) (pending feed.block ++ new.capture.bytes))
+  pub begun : OnOk result (IsTrue old.tells → Begins feed.is_big (content_of old.contents name) (pending feed.block ++ new.capture.bytes))
   pub end : IfErr result (λ e. CaptureEnd name old new (ending_of e))
 
 -- why the outputs end a run: the fault's slot is not ready
@@ -103,6 +97,9 @@ pub record BreaksOffAt (settings : PlainSettings) (is_big : Bool) (limit taken :
   pub front : List ℕ
   pub is : whole ≡ front ++ new.capture.bytes
   pub written : Appends (out settings (records_from is_big limit taken front).bodies) old new
+  -- which is a front of all that is written
+  pub rest : List Item
+  pub more : out settings (records_from is_big limit taken whole).bodies ≡ out settings (records_from is_big limit taken front).bodies ++ rest
 
 -- how the records of these bytes end a run
 abbrev pub RecordsEnd : PlainSettings → Bool → ℕ → ℕ → List ℕ → RoomState → RoomState → Ending → Type 0
@@ -149,7 +146,7 @@ pub record IsStopped (slot : Slot) (names : Names) (old new : RoomState) : Type 
 -- what stands where a fault of this slot ends a replay
 abbrev pub Stands : Names → RoomState → RoomState → Slot → Type 0
 Stands names old new Settings = HasSettingsAlone new
-Stands names old new Capture = (IsFaultAtHeader names old new ⊎ IsFaultAtRecord names old new)
+Stands names old new Capture = (IsFaultAtHeader names old new ⊎ (IsFaultAtRecord names old new × (IsTrue old.tells → IsStopped Capture names old new)))
     × (IsTrue old.tells → (s : PlainSettings) × (replayable (content_of old.contents names.settings) ≡ Ok s))
 Stands names old new Goose = IsTrue old.tells → IsStopped Goose names old new
 Stands names old new Log = IsTrue old.tells → IsStopped Log names old new

@@ -1,5 +1,5 @@
 -- What accepted settings ask for and `replay` doesn't do yet, in the order in which the settings are read.
-use Rattle.std.specs.Prelude.{ℕ, List, [], ◌∷◌, Option, Some, None, is_some, codes, if◌then◌else◌, Result, Ok, Err}
+use Rattle.std.specs.Prelude.{ℕ, List, [], ◌∷◌, Option, Some, None, is_some, codes, if◌then◌else◌, Ok, Err}
 use Rattle.relay_settings.specs.Settings.{PlainLine, PlainSettings}
 use Rattle.relay_settings.specs.declared.types.ZoneSettings.{ZoneSettings}
 use Rattle.settings_read.specs.Walk.{Answer, refused}

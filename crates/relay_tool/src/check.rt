@@ -1,5 +1,5 @@
 //! `check SETTINGS`: whether a settings file would be accepted.
-ghost use Rattle.std.specs.Prelude.{◌≡◌, ◌+◌, ◌≤◌, ◌<◌, ◌^◌, ◌++◌, length, IsTrue, map, sum};
+ghost use Rattle.std.specs.Prelude.{◌≡◌, ◌+◌, ◌≤◌, ◌<◌, ◌^◌, ◌++◌, length};
 ghost use Rattle.std.specs.Fmt.{decimal};
 ghost use Rattle.room_io.specs.Room.{IsUnused};
 ghost use Rattle.relay_settings.specs.Settings.{plain_settings, plain_lines};

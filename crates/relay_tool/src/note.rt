@@ -107,9 +107,7 @@ pub fn note_of(end: &End) -> Note
 {
     match end {
         End::Done => ArrayVec::new(),
-        End::Usage => text(
-            b"usage: relay replay SETTINGS CAPTURE GOOSE LOG or check SETTINGS\n",
-        ),
+        End::Usage => text(b"usage: relay replay SETTINGS CAPTURE GOOSE LOG or check SETTINGS\n"),
         End::Refused { number, key } => refused(*number, key.as_str().as_bytes()),
         End::Unbuilt(unbuilt) => refused(13, key_text(*unbuilt)),
         End::NotCapture => text(b"not a capture\n"),

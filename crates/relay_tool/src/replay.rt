@@ -1,5 +1,5 @@
 //! `replay SETTINGS CAPTURE GOOSE LOG`: the main job, in its order of work.
-ghost use Rattle.std.specs.Prelude.{◌≡◌, ◌∷◌, [], ◌≤◌, length, IsTrue, Option, None, List, ℕ};
+ghost use Rattle.std.specs.Prelude.{◌≡◌, ◌∷◌, [], ◌≤◌, length, true, false, None};
 ghost use Rattle.room_io.specs.Room.{at, IsReadyOut, IsReadyIn, IsUnused};
 ghost use Rattle.room_io.specs.declared.room.Slot.TheVariants.{Settings, Capture, Goose, Log};
 ghost use Rattle.capture_feed.specs.Block.{pending};
@@ -115,5 +115,11 @@ pub fn replay<R: Room>(alloc: Global, files: &Files<'_>, room: &mut R) -> End
         Ok(()) => {}
         Err(end) => return end,
     }
-    treat_counted::<R, Brand>(&mut feed, one.sv_id.as_slice(), &mut line, room, Blank::new(1))
+    treat_counted::<R, Brand>(
+        &mut feed,
+        one.sv_id.as_slice(),
+        &mut line,
+        room,
+        Blank::new(1),
+    )
 }

@@ -1,6 +1,8 @@
 //! The settings of a run, read from their slot.
 ghost use Rattle.std.specs.Prelude.{◌≡◌, ◌≤◌, length};
 ghost use Rattle.room_io.specs.Room.{at, IsUnused};
+ghost use Rattle.relay_tool.specs.Ends.{ending_of};
+ghost use Rattle.relay_tool.specs.Errors.{ending_of_error};
 ghost use Rattle.relay_tool.specs.Steps.{ReadsSettings};
 
 use crate::end::End;
@@ -13,11 +15,7 @@ use std::alloc::Global;
 const MOST_SETTINGS: usize = 1_048_577;
 
 /// Opens the settings, reads them to their end or to one byte beyond their limit, and accepts them.
-pub fn accept_settings<R: Room>(
-    alloc: Global,
-    name: &str,
-    room: &mut R,
-) -> Result<Settings, End>
+pub fn accept_settings<R: Room>(alloc: Global, name: &str, room: &mut R) -> Result<Settings, End>
     requires unused { IsUnused (R.state room.old) }
     requires short { length name.now ≤ 1024 }
     ensures { ReadsSettings name.now (R.state room.old) (R.state room.new) result }
@@ -37,7 +35,10 @@ pub fn accept_settings<R: Room>(
     }
 }
 
-fn end_of(error: SettingsError) -> End {
+/// How a run ends where its settings aren't accepted.
+fn end_of(error: SettingsError) -> End
+    ensures { ending_of result ≡ ending_of_error error }
+{
     match error {
         SettingsError::NoMemory => End::NoMemory,
         SettingsError::Refused { number, key } => End::Refused { number, key },

@@ -1,9 +1,8 @@
-use Rattle.std.proofs.Common.{◌≡◌, ◌+◌, ◌*◌, ◌^◌, ◌<◌, ◌≤◌, true, false, get_or, length, map, refl, sym, ap, ◌∙◌, arith}
+use Rattle.std.proofs.Common.{◌+◌, ◌*◌, ◌^◌, refl, sym, ap, ◌∙◌, arith}
 use Rattle.std.proofs.Math.ListN.{get_or-map}
 use Rattle.std.proofs.lemmas.List.{length-map}
 use Rattle.std.specs.Str.{bytes_eq}
 use Rattle.sv_frame.specs.Asdu.{plain_asdu, plain_asdus}
-use Rattle.relay_tool.specs.Output.{owns}
 use Rattle.relay_tool.proofs.Writing.{OnlyWrites-refl, OnlyWrites-trans}
 use Rattle.relay_tool.proofs.Hearing.{heard-none, heard-mine, heard-stopped, heard-foreign, heard-done}
 use Rattle.relay_tool.proofs.records.hear_all.Goals as goal

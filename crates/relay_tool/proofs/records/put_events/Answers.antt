@@ -1,4 +1,4 @@
-use Rattle.std.proofs.Common.{◌∙◌, get_or, ap, subst, [], ◌∷◌}
+use Rattle.std.proofs.Common.{◌∙◌, subst, [], ◌∷◌}
 use Rattle.std.specs.Prelude.{Ok, Err, Some}
 use Rattle.room_io.specs.declared.room.Slot.TheVariants.{Log}
 use Rattle.event_record.specs.declared.event.Event.{Event}

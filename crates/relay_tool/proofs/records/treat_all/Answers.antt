@@ -1,7 +1,6 @@
-use Rattle.std.proofs.Common.{◌≡◌, ◌+◌, ◌*◌, ◌≤◌, ◌++◌, IsTrue, refl, sym, subst, arith, ap, ◌∙◌}
+use Rattle.std.proofs.Common.{◌≡◌, ◌*◌, ◌++◌, refl, sym, subst, arith, ap, ◌∙◌}
 use Rattle.std.specs.Prelude.{Err}
 use Rattle.room_io.specs.Room.{RoomState}
-use Rattle.room_io.specs.declared.room.Slot.TheVariants.{Capture}
 use Rattle.capture_feed.specs.Capture.{Whole, Cut, Damaged, records_from, stopped}
 use Rattle.capture_feed.specs.Gives.{Gives, HoldsNone}
 use Rattle.capture_feed.specs.Block.{pending}
@@ -44,7 +43,7 @@ records-preserved g c =
           same-place h.1.1.1.0 (ap (λ (room : RoomState). pending c.next.follows.lender-at-none.block ++ room.capture.bytes) c.treat.ensures.only.others)
           (treated-next common settings _ _ _ _ t i.only k.only
           (λ told. moved i.order i.limit (λ b n. Gives b n c.records.feed.taken c.in-Some.frame.bytes.now c.in-Some.frame.captured (pending c.records.feed.block ++ (g.R.Room.state c.records.room).capture.bytes)
-              (pending c.next.follows.lender-at-none.block ++ (g.R.Room.state c.next.new.room).capture.bytes)) (h.1.1.1.1 told))
+          (pending c.next.follows.lender-at-none.block ++ (g.R.Room.state c.next.new.room).capture.bytes)) (h.1.1.1.1 told))
           (c.in-Ok-treat.ensures.hears common settings t.past t.stands same));
     }
 
@@ -60,7 +59,7 @@ returns-in-Err-treat g c common settings stands same =
       end = treated-stopped common settings _ _ _ _ (g.R.Room.state c.args.room.now) (g.R.Room.state c.records.room) (g.R.Room.state c.next.new.room) (g.R.Room.state c.treat.new.room) (ending_of c.in-Err-treat.end)
           t i.only k.only (works-reads k.only k.stays k.later)
           (λ told. moved i.order i.limit (λ b n. Gives b n c.records.feed.taken c.in-Some.frame.bytes.now c.in-Some.frame.captured (pending c.records.feed.block ++ (g.R.Room.state c.records.room).capture.bytes)
-              (pending c.next.follows.lender-at-none.block ++ (g.R.Room.state c.next.new.room).capture.bytes)) (h.1.1.1.1 told))
+          (pending c.next.follows.lender-at-none.block ++ (g.R.Room.state c.next.new.room).capture.bytes)) (h.1.1.1.1 told))
           hears.makes.end;
     }
 
