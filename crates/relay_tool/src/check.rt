@@ -9,7 +9,7 @@ ghost use Rattle.relay_tool.specs.Run.{check_text, zones_in};
 ghost use Rattle.relay_tool.specs.Steps.{Checks};
 
 use crate::end::End;
-use crate::note::Note;
+use crate::note::{Note, put, put_number, text};
 use crate::settings::accept_settings;
 use relay_settings::{LineSettings, Settings};
 use room_io::{Room, Slot, write_whole};
@@ -48,10 +48,10 @@ fn answer_of(settings: &Settings) -> Note
     requires { InRange settings.now }
     ensures { result.items ≡ check_text (plain_settings settings.now) }
 {
-    let mut answer = crate::note::text(b"ok ");
-    crate::note::put_number(&mut answer, settings.lines.len() as u64);
-    crate::note::put(&mut answer, b" lines ");
-    crate::note::put_number(&mut answer, zones_of(settings.lines.as_slice()));
-    crate::note::put(&mut answer, b" zones\n");
+    let mut answer = text(b"ok ");
+    put_number(&mut answer, settings.lines.len() as u64);
+    put(&mut answer, b" lines ");
+    put_number(&mut answer, zones_of(settings.lines.as_slice()));
+    put(&mut answer, b" zones\n");
     answer
 }
