@@ -1,0 +1,6 @@
+use Rattle.std.proofs.Common.{◌+◌, ◌%◌, ◌^◌, ◌+ℤ◌}
+use Rattle.lanes.proofs.LaneLemmas.{lanes_are, both, Both, wrapped_sum}
+use Rattle.lanes.proofs.sum8.Goals as goal
+
+pub returns : goal.returns
+returns c = lanes_are (λ m n. (m + n) % 2 ^ 64) (λ x y. x +ℤ y) (Both (2 ^ 62) (2 ^ 62)) wrapped_sum c.args.a.now c.args.b.now (both c.args.a.now c.args.b.now (2 ^ 62) (2 ^ 62) c.requires.a c.requires.b)
