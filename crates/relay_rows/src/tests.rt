@@ -1,0 +1,5 @@
+//! Rows of the whole relay, one file a subject, over the inputs of the first.
+mod captures;
+mod failing;
+mod inputs;
+mod settings;
