@@ -1,0 +1,3 @@
+pub mod SlideLemmas
+pub mod WindowLanes
+pub mod WindowLemmas
