@@ -21,6 +21,9 @@ ghost use Rattle.cycle_phasor.specs.Sliding.{values_left, slid, floored};
 use lanes::{difference8, multiple8, sum8};
 use relay_num::{Cx, floor_shift, wave};
 
+#[cfg(test)]
+mod tests;
+
 /// The sums of a window of samples in eight channels: the recursive form of the full-cycle Fourier
 /// filter (Phadke and Thorp, Computer Relaying for Power Systems).
 #[derive(Clone, Copy, Drop)]
