@@ -1,0 +1,83 @@
+//! The direction of a loop: forward, reverse or neither, by the sign of a torque.
+//!
+//! The line's impedance is in milliohms; voltages and currents keep the units of phasors, sequence
+//! parts and loops, since only the sign of a torque tells. Every torque is below 2^102 in size. It
+//! stands on `relay_num` for complex numbers.
+#![tactic(auto)]
+
+ghost use Rattle.std.specs.Prelude.{◌≡◌, ◌^◌, ◌<◌, IfSome};
+ghost use Rattle.relay_num.specs.Numbers.{IsBelow};
+ghost use Rattle.direction.specs.Torques.{side, sense_by_negative, sense_by_polarising, direction_of};
+
+use relay_num::{Cx, mul, mul_conj};
+
+#[cfg(test)]
+mod tests;
+
+/// The side on which a loop's fault is.
+#[derive(Clone, Copy, PartialEq, Eq, Debug)]
+pub enum Sense {
+    /// Ahead of the relay, towards the line.
+    Forward,
+    /// Behind the relay.
+    Reverse,
+    /// There is no torque, or no polarising voltage.
+    Neither,
+}
+
+/// The direction of a loop with the current `i` on a line of the impedance `zl`.
+///
+/// Where `minus`, the negative sequence's voltage and current, is there, it decides by their torque.
+/// Otherwise the torque of the current against the loop's polarising voltage `pol` does, and without
+/// one the direction is `Neither`. Parts are below 2^20 in size for `zl`, 2^45 for `i`, 2^34 for
+/// `pol`, and 2^32 for `minus`.
+pub fn loop_direction(zl: Cx, i: Cx, pol: Option<Cx>, minus: Option<(Cx, Cx)>) -> Sense
+    requires zl { IsBelow zl (2 ^ 20) }
+    requires i { IsBelow i (2 ^ 45) }
+    requires pol { IfSome pol (λ p. IsBelow p (2 ^ 34)) }
+    requires minus { IfSome minus (λ m. IsBelow m.0 (2 ^ 32) × IsBelow m.1 (2 ^ 32)) }
+    ensures { result ≡ direction_of zl i pol minus }
+{
+    match minus {
+        Some((u2, i2)) => by_negative(zl, u2, i2),
+        None => match pol {
+            Some(p) => by_polarising(zl, i, p),
+            None => Sense::Neither,
+        },
+    }
+}
+
+/// By the torque of the negative sequence, whose voltage is against its current at a fault ahead.
+fn by_negative(zl: Cx, u2: Cx, i2: Cx) -> Sense
+    requires zl { IsBelow zl (2 ^ 20) }
+    requires u2 { IsBelow u2 (2 ^ 32) }
+    requires i2 { IsBelow i2 (2 ^ 32) }
+    ensures { result ≡ sense_by_negative zl u2 i2 }
+{
+    let torque = mul_conj(mul(zl, i2), u2).re;
+    side(torque < 0, torque > 0)
+}
+
+/// By the torque of the current against the polarising voltage.
+fn by_polarising(zl: Cx, i: Cx, p: Cx) -> Sense
+    requires zl { IsBelow zl (2 ^ 20) }
+    requires i { IsBelow i (2 ^ 45) }
+    requires p { IsBelow p (2 ^ 34) }
+    ensures { result ≡ sense_by_polarising zl i p }
+{
+    let torque = mul_conj(mul(zl, i), p).re;
+    side(torque > 0, torque < 0)
+}
+
+/// The first that holds.
+fn side(ahead: bool, behind: bool) -> Sense
+    ensures { result ≡ side ahead behind }
+{
+    if ahead {
+        Sense::Forward
+    } else if behind {
+        Sense::Reverse
+    } else {
+        Sense::Neither
+    }
+}
