@@ -3,7 +3,7 @@ ghost use Rattle.std.specs.Prelude.{◌≡◌, ◌<◌, ◌+◌, ◌^◌};
 ghost use Rattle.relay_num.specs.Numbers.{IsBelow};
 
 use crate::mho_inside;
-use relay_num::{Cx, open_steps};
+use relay_num::{Cx, Cx128, mul_conj, open_steps};
 use std::marker::Brand;
 use std::sync::ledger::{Blank, Ledger};
 
@@ -53,4 +53,19 @@ fn the_greatest_values_do_not_wrap(rt: HostRuntime) {
     };
     assert_eq!(rt; inside::<Brand>(z, u, i, pol, Blank::new(1)), true);
     assert_eq!(rt; inside::<Brand>(z, u, i, against, Blank::new(1)), false);
+}
+
+#[test]
+fn the_greatest_product_does_not_wrap(rt: HostRuntime) {
+    let operating = Cx128 {
+        re: 1208925819614629174706175,
+        im: 1208925819614629174706175,
+    };
+    let polarising = Cx {
+        re: 35184372088831,
+        im: 35184372088831,
+    };
+    let torque = mul_conj(operating, polarising);
+    assert_eq!(rt; torque.re, 85070591730232198014204352230848462850);
+    assert_eq!(rt; torque.im, 0);
 }
