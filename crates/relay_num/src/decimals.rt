@@ -5,7 +5,8 @@ ghost use Rattle.arrayvec.specs.ArrayVec.{array_vec_len};
 
 use arrayvec::ArrayVec;
 
-/// Appends the decimal digits of `value`, without a needless leading zero.
+/// Appends the decimal digits of `value` in ASCII, without a needless leading zero, and changes nothing
+/// before them. `out` has room for them; at most 20 are written.
 pub fn put_decimal<const CAP: usize>(out: &mut ArrayVec<u8, CAP>, value: u64)
     requires { array_vec_len out.old + length (decimal value) ≤ CAP }
     ensures { out.new.items ≡ out.old.items ++ decimal value }

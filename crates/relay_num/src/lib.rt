@@ -1,6 +1,7 @@
 //! The relay's whole-number arithmetic: complex numbers, the printed sine tables, counted steps and decimal digits.
 //!
-//! Every call is exact within the bounds that it requires, and nothing here takes memory. A phasor's
+//! Every call is exact within the bounds that it requires, and nothing here takes memory. It stands on
+//! `arrayvec` for the digits and on std's ledger for the steps; every other crate stands on it. A phasor's
 //! parts are counts scaled as `specs/Windows.antt` says: a peak of A counts over a cycle of N samples
 //! has the size A * N / 64.
 #![tactic(auto)]
@@ -20,21 +21,21 @@ pub use waves::wave;
 #[derive(Clone, Copy, PartialEq, Eq, Debug, Drop)]
 pub struct NoMemory;
 
-/// A complex number.
+/// A complex whole number, as a phasor or an impedance in milliohms: the parts along the real and the imaginary axis.
 #[derive(Clone, Copy, PartialEq, Eq, Debug, Default, Drop)]
 pub struct Cx {
     pub re: i64,
     pub im: i64,
 }
 
-/// A complex number with wide parts.
+/// A complex whole number with wide parts, which hold each product of two phasors exactly.
 #[derive(Clone, Copy, PartialEq, Eq, Debug, Default, Drop)]
 pub struct Cx128 {
     pub re: i128,
     pub im: i128,
 }
 
-/// `x` divided by `2 ^ bits`, rounded down.
+/// `x` divided by `2 ^ bits`, rounded down, also below 0: `floor_shift(-1, 19)` is -1. `bits` is at most 62.
 pub fn floor_shift(x: i64, bits: u32) -> i64
     requires { bits < 63 }
     ensures { result ≡ floor_div x (2 ^ bits) }
@@ -42,7 +43,7 @@ pub fn floor_shift(x: i64, bits: u32) -> i64
     x >> bits
 }
 
-/// The product.
+/// The product `a * b`, exactly. The parts of both are below `2 ^ 62` in size.
 pub fn mul(a: Cx, b: Cx) -> Cx128
     requires a { IsBelow a (2 ^ 62) }
     requires b { IsBelow b (2 ^ 62) }
@@ -56,7 +57,8 @@ pub fn mul(a: Cx, b: Cx) -> Cx128
     }
 }
 
-/// The product with the conjugate.
+/// The product of `a` and the conjugate of `b`, exactly: its angle is that by which `a` leads `b`.
+/// The parts of `a` are below `2 ^ 80` in size, those of `b` below `2 ^ 45`.
 pub fn mul_conj(a: Cx128, b: Cx) -> Cx128
     requires a { IsBelow (value_of a) (2 ^ 80) }
     requires b { IsBelow b (2 ^ 45) }
@@ -69,7 +71,8 @@ pub fn mul_conj(a: Cx128, b: Cx) -> Cx128
     }
 }
 
-/// `x` turned by a third of a circle.
+/// `x` turned forward by a third of a circle, the operator a of symmetrical components: its product with
+/// (-8192 + 14189 j) / 16384, each part rounded down. The parts of `x` are below `2 ^ 48` in size.
 pub fn times_a(x: Cx) -> Cx
     requires { IsBelow x (2 ^ 48) }
     ensures { result ≡ turned x }
@@ -80,7 +83,8 @@ pub fn times_a(x: Cx) -> Cx
     }
 }
 
-/// `x` turned by two thirds of a circle.
+/// `x` turned forward by two thirds of a circle, the operator a squared: its product with
+/// (-8192 - 14189 j) / 16384, each part rounded down. The parts of `x` are below `2 ^ 48` in size.
 pub fn times_a2(x: Cx) -> Cx
     requires { IsBelow x (2 ^ 48) }
     ensures { result ≡ turned_back x }
@@ -91,7 +95,7 @@ pub fn times_a2(x: Cx) -> Cx
     }
 }
 
-/// The square of the size.
+/// The square of the size, exactly. The parts of `p` are below `2 ^ 62` in size.
 pub fn norm(p: Cx) -> i128
     requires { IsBelow p (2 ^ 62) }
     ensures { result ≡ norm p }
@@ -100,7 +104,8 @@ pub fn norm(p: Cx) -> i128
     re * re + im * im
 }
 
-/// Whether `p`, a phasor of `n` samples a cycle, is at least `m` counts rms.
+/// Whether `p`, a phasor of `n` samples a cycle (80 or 96), is at least `m` counts rms (mA, or 10 mV counts);
+/// at equality it is. The parts of `p` are below `2 ^ 48` in size, and `m` is at most `2 ^ 30`.
 pub fn at_least_rms(p: Cx, n: u32, m: u32) -> bool
     requires n { (n ≡ 80) ⊎ (n ≡ 96) }
     requires p { IsBelow p (2 ^ 48) }
