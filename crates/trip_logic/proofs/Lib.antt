@@ -1,0 +1,4 @@
+pub mod OlderLemmas
+pub mod SealLemmas
+pub mod HeldLemmas
+pub mod SaidLemmas
