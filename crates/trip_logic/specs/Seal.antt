@@ -13,12 +13,12 @@ module _ {X : Type 0} (number : X → ℕ) (operates dead : List X → Bool) whe
       nat_le (began + least) (newest_number number samples)
       && (not (operates samples) && held_for number open_run dead samples)
 
-  -- whether some sample behind the one at the place has ended the trip that was raised there
+  -- whether some sample later than the one at the place has ended the trip that was raised there
   abbrev pub has_ended : ℕ → ℕ → ℕ → List X → Bool
   has_ended least open_run place samples =
       any_below place (λ later. ends least open_run (newest_number number (drop place samples)) (drop later samples))
 
-  -- whether the trip stands: there is a sample at which a zone operates, and none behind it has ended its trip
+  -- whether the trip stands: there is a sample at which a zone operates, and no later one has ended its trip
   unfoldable pub stands : ℕ → ℕ → List X → Bool
   stands least open_run samples =
       any_below (length samples)

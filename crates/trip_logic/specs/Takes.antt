@@ -15,7 +15,7 @@ take_of number operated dead = record { number = number; operated = operated; de
 abbrev pub number_of : TripTake → ℕ
 number_of take = take.number
 
--- the newest take may follow the ones before it: numbers rise, and the line isn't dead behind a gap
+-- the newest take may follow the ones before it: numbers rise, and the line isn't dead after a gap
 abbrev pub Follows : TripTake → List TripTake → Type 0
 Follows newest [] = Unit {0}
 Follows newest (before ∷ older) =

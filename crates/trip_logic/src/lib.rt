@@ -60,7 +60,7 @@ impl Trip {
     /// is counted here.
     ///
     /// The answer is that of the rule in `specs/Seal.antt` wherever the numbers rise, and no take is dead whose
-    /// number isn't one above that of the take before it: behind a gap no sample is ready.
+    /// number isn't one above that of the take before it: after a gap no sample is ready.
     pub fn take(&mut self, number: u64, operated: bool, dead: bool) -> TripState
         ensures state { (min open_run : ℕ) (takes : List TripTake) → StandsFor min open_run takes self.old →
             Follows (take_of number operated dead) takes →

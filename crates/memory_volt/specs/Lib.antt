@@ -1,0 +1,2 @@
+pub mod Polarising
+pub mod Held
