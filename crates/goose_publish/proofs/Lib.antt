@@ -1,0 +1,4 @@
+pub mod ChangeLemmas
+pub mod OffsetLemmas
+pub mod PassedOffsets
+pub mod ScheduleLemmas

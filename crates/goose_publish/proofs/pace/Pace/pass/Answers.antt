@@ -1,0 +1,24 @@
+use Rattle.std.proofs.Common.{◌≡◌, suc, arith}
+use Rattle.goose_publish.specs.Offsets.{step_ms, offset_ms}
+use Rattle.goose_publish.proofs.OffsetLemmas.{step-next}
+use Rattle.goose_publish.proofs.pace.Pace.pass.Goals as goal
+
+pub loop-self-preserved : goal.loop-self-preserved
+unfolding offset_ms
+loop-self-preserved c = record {
+  short = c.loop-self.invariant.short;
+  going = λ common k at passed. let now = c.loop-self.invariant.going common k at passed in
+      let step : c.min-self.result ≡ step_ms common (suc now.k) =
+      omega (arith, step-next common now.k, c.min-self.ensures, now.at.heartbeat, now.at.step) in record {
+        k = suc now.k;
+        at = record {
+          rate = now.at.rate;
+          heartbeat = now.at.heartbeat;
+          step = step;
+          next = omega (arith, step, now.at.next, c.from-in-loop-self-2.ensures);
+        };
+        passed =
+            rw (← now.at.next, ← now.at.rate)
+            (omega (arith, c.samples_of-in-loop-self.ensures, c.from-in-loop-self.ensures, c.loop-self-test.true));
+      };
+}

@@ -1,0 +1,87 @@
+//! How far the offsets of the frames after a change have come.
+
+ghost use Rattle.std.specs.Prelude.{◌≡◌};
+ghost use Rattle.relay_settings.specs.Samples.{samples};
+
+use relay_settings::Common;
+
+/// `ms` milliseconds in samples, rounded up, for the offset of any sample.
+fn samples_of(ms: u64, rate: u32) -> u128
+    ensures { result ≡ samples rate ms }
+{
+    (u128::from(ms) * u128::from(rate) + 999) / 1000
+}
+
+/// The least offset that isn't passed yet, and the step that leads to it.
+#[derive(Drop)]
+pub struct Pace {
+    rate: u32,
+    heartbeat_ms: u32,
+    step_ms: u32,
+    next_ms: u64,
+    ghost fast: { 1000 ≤ rate },
+    ghost heartbeat: { heartbeat_ms ≤ 60000 },
+    ghost some: { 0 < step_ms },
+    ghost short: { step_ms ≤ heartbeat_ms },
+    ghost ahead: { 0 < next_ms },
+}
+
+ghost use Rattle.std.specs.Prelude.{◌<◌, ◌≤◌};
+
+impl Pace {
+    ghost use Rattle.std.specs.Prelude.{ℕ, ◌≡◌, ◌<◌, ◌≤◌, ◌*◌, ◌-◌, ◌^◌, suc, nat_le, IsTrue};
+    ghost use Rattle.relay_settings.specs.declared.types.Common.{Common};
+    ghost use Rattle.relay_settings.specs.Samples.{samples};
+    ghost use Rattle.goose_publish.specs.Offsets.{offset_ms};
+    ghost use Rattle.goose_publish.specs.Paces.{IsAt, Passed};
+
+    /// At the offset 0.
+    pub fn new(common: &Common) -> Pace
+        requires rate { 1000 ≤ common.now.rate }
+        requires some { 0 < common.now.heartbeat_ms }
+        requires heartbeat { common.now.heartbeat_ms ≤ 60000 }
+        ensures { IsAt common.now 0 result }
+    {
+        let step_ms = common.heartbeat_ms.min(4);
+        Pace {
+            rate: common.rate,
+            heartbeat_ms: common.heartbeat_ms,
+            step_ms,
+            next_ms: u64::from(step_ms),
+        }
+    }
+
+    /// Goes back to the offset 0.
+    pub fn restart(&mut self)
+        ensures { (common : Common) (k : ℕ) → IsAt common k self.old → IsAt common 0 self.new }
+    {
+        self.step_ms = self.heartbeat_ms.min(4);
+        self.next_ms = u64::from(self.step_ms);
+    }
+
+    /// Three times the step from the last offset that is passed to the next.
+    pub fn live_ms(&self) -> u32
+        ensures exact { (common : Common) (k : ℕ) → IsAt common k self.now →
+            result ≡ 3 * (offset_ms common (suc k) - offset_ms common k) }
+        ensures short { result ≤ 180000 }
+    {
+        3 * self.step_ms
+    }
+
+    /// Passes each offset that falls at most `age` samples after the change, and answers whether there is one.
+    pub fn pass(&mut self, age: u64) -> bool
+        requires { age < 2 ^ 61 }
+        ensures due { (common : Common) (k : ℕ) → IsAt common k self.old →
+            result ≡ nat_le (samples common.rate (offset_ms common (suc k))) age }
+        ensures after { (common : Common) (k : ℕ) → IsAt common k self.old →
+            samples common.rate (offset_ms common k) ≤ age → Passed common age self.new }
+        ensures later { IsTrue result → 0 < age }
+    {
+        let is_due = samples_of(self.next_ms, self.rate) <= u128::from(age);
+        while samples_of(self.next_ms, self.rate) <= u128::from(age) {
+            self.step_ms = self.heartbeat_ms.min(2 * self.step_ms);
+            self.next_ms += u64::from(self.step_ms);
+        }
+        is_due
+    }
+}

@@ -1,0 +1,101 @@
+//! The publisher of a line.
+ghost use Rattle.std.specs.Prelude.{◌≡◌, ◌≤◌};
+
+use crate::frame::frame_bytes;
+use crate::points::{Points, Send};
+use crate::schedule::Schedule;
+use arrayvec::ArrayVec;
+use relay_settings::{Common, GooseSettings};
+
+/// Decides at each taken sample whether a frame is sent, and writes the frames.
+#[derive(Drop)]
+pub struct Publisher {
+    common: Common,
+    goose: GooseSettings,
+    schedule: Schedule,
+    ghost fast: { 1000 ≤ common.rate },
+    ghost slow: { common.rate ≤ 4800 },
+    ghost vlan_priority: { goose.vlan_priority ≤ 7 },
+    ghost vlan_id: { goose.vlan_id ≤ 4095 },
+}
+
+impl Publisher {
+    ghost use Rattle.std.specs.Prelude.{ℕ, ◌≡◌, ◌<◌, ◌≤◌, ◌^◌, List, [], ◌∷◌, length, IfSome};
+    ghost use Rattle.relay_settings.specs.declared.types.Common.{Common};
+    ghost use Rattle.relay_settings.specs.Settings.{PlainGoose, plain_goose};
+    ghost use Rattle.relay_settings.specs.Ranges.{IsCommon, IsGoose};
+    ghost use Rattle.goose_publish.specs.Publishing.{PointsTake, take_of, RisesTo, send_of};
+    ghost use Rattle.goose_publish.specs.Sends.{IsSentAt};
+    ghost use Rattle.goose_publish.specs.Frame.{frame_bytes};
+    ghost use Rattle.goose_publish.specs.Publishers.{HasSettings, StandsFor};
+
+    /// One that has taken nothing. The settings are in their ranges.
+    pub fn new(common: &Common, goose: &GooseSettings) -> Publisher
+        requires common { IsCommon common.now }
+        requires goose { IsGoose goose.now }
+        ensures { StandsFor common.now (plain_goose goose.now) [] result }
+    {
+        Publisher {
+            common: *common,
+            goose: copy_of(goose),
+            schedule: Schedule::new(common),
+        }
+    }
+
+    /// Takes the points of the next sample, and answers the frame that is sent at it.
+    ///
+    /// A frame is sent where the sample is the first, where its points differ from those of the sample taken
+    /// before, and where an offset of the schedule falls after that sample and not after this one: one frame,
+    /// however many offsets do. The offsets count from the last change; they are 0 ms and then rise by steps of
+    /// 4, 8, 16 ms and so on, none longer than the heartbeat. None comes exactly where nothing is sent.
+    ///
+    /// Numbers rise, and are below 2^61.
+    pub fn take(&mut self, number: u64, points: &Points) -> Option<Send>
+        requires { number < 2 ^ 61 }
+        // By the takes before: for each list of them, the newest first, that the publisher stands for.
+        ensures send { (common : Common) (goose : PlainGoose) (takes : List PointsTake) →
+            StandsFor common goose takes self.old → RisesTo (take_of number points.now) takes →
+            result ≡ send_of common (take_of number points.now) takes }
+        ensures after { (common : Common) (goose : PlainGoose) (takes : List PointsTake) →
+            StandsFor common goose takes self.old → RisesTo (take_of number points.now) takes →
+            StandsFor common goose (take_of number points.now ∷ takes) self.new }
+        // By this take alone.
+        ensures sent { IfSome result (λ s. IsSentAt number points.now s) }
+    {
+        self.schedule.take(number, points)
+    }
+
+    /// The bytes of a frame that is sent, from the destination to the end of the PDU (IEC 61850-8-1). They depend
+    /// on the settings and on the frame alone, and each value of `Send` has them.
+    pub fn frame_bytes(&self, send: &Send) -> ArrayVec<u8, 1024>
+        ensures bytes { (common : Common) (goose : PlainGoose) → HasSettings common goose self.now →
+            result.items ≡ frame_bytes common goose send.now }
+        ensures long { length result.items ≤ 640 }
+    {
+        frame_bytes(&self.common, &self.goose, send)
+    }
+}
+
+fn copy_of_text(text: &ArrayVec<u8, 129>) -> ArrayVec<u8, 129>
+    ensures { result ≡ text.now }
+{
+    let mut copy = ArrayVec::new();
+    let _ = copy.try_extend_from_slice(text.as_slice());
+    copy
+}
+
+fn copy_of(goose: &GooseSettings) -> GooseSettings
+    ensures { result ≡ goose.now }
+{
+    GooseSettings {
+        dst: goose.dst,
+        src: goose.src,
+        appid: goose.appid,
+        vlan_priority: goose.vlan_priority,
+        vlan_id: goose.vlan_id,
+        gocb_ref: copy_of_text(&goose.gocb_ref),
+        dat_set: copy_of_text(&goose.dat_set),
+        go_id: copy_of_text(&goose.go_id),
+        conf_rev: goose.conf_rev,
+    }
+}
