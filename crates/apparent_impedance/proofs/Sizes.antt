@@ -1,0 +1,27 @@
+-- How great an impedance becomes, as a fraction over the square of the current's size.
+use Rattle.std.proofs.Common.{◌≡◌, ◌*◌, ◌^◌, ◌<◌, ◌≤◌, ◌*ℤ◌, ℤ, pos, arith, lit≤, unsigned_abs, FitsSigned, to_z-of_z}
+use Rattle.std.specs.Int.{w128}
+use Rattle.relay_num.specs.declared.Cx.{Cx}
+use Rattle.relay_num.specs.Numbers.{IsBelow, scaled, conjugate, norm}
+use Rattle.relay_num.proofs.Signed.{size-product}
+use Rattle.relay_num.proofs.Wide.{held, fits_128, IsBelow-product, IsBelow-weaker, IsBelow-conjugate, size-norm}
+use Rattle.apparent_impedance.specs.Impedance.{apparent}
+
+pub apparent_below : (u i : Cx) → IsBelow u (2 ^ 32) → IsBelow i (2 ^ 32) → IsBelow (apparent u i) (2 ^ 80)
+apparent_below u i h k =
+    let volts : IsBelow (scaled 10000 u) (10001 * 2 ^ 32) = record {
+      re = size-product (pos 10000) u.re 10001 (2 ^ 32) (omega arith) h.re;
+      im = size-product (pos 10000) u.im 10001 (2 ^ 32) (omega arith) h.im;
+    } in
+    IsBelow-weaker _ _ (2 ^ 80) (IsBelow-product (scaled 10000 u) (conjugate i) (10001 * 2 ^ 32) (2 ^ 32) volts (IsBelow-conjugate i (2 ^ 32) k)) (lit≤ tt)
+
+pub norm_below : (i : Cx) → IsBelow i (2 ^ 32) → unsigned_abs (norm i) < 2 ^ 66
+norm_below i h = omega (arith, size-norm i (2 ^ 32) h)
+
+-- a product with so many milliohms fits
+pub exact_times : (k z : ℤ) → unsigned_abs k ≤ 1000000 → unsigned_abs z < 2 ^ 66 → held (held k *ℤ held z) ≡ k *ℤ z
+exact_times k z h l =
+    let fk : FitsSigned w128 k = fits_128 k 1000001 (omega arith) (lit≤ tt) in
+    let fz : FitsSigned w128 z = fits_128 z (2 ^ 66) l (lit≤ tt) in
+    let f : FitsSigned w128 (k *ℤ z) = fits_128 _ _ (size-product k z 1000001 (2 ^ 66) (omega arith) l) (lit≤ tt) in
+    simp to_z-of_z
