@@ -1,0 +1,3 @@
+pub mod Blinders
+pub mod Swinging
+pub mod Swings

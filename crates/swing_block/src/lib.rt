@@ -1,0 +1,18 @@
+//! Blocking by power swing: where the apparent impedance of the positive sequence lies between two
+//! blinders, and whether it has stayed between them long enough to be a swing and no fault.
+//!
+//! A fault takes the impedance from load into the inner blinder at once, a swing moves it slowly. Sequence
+//! parts are three times the component, voltages in counts of 10 mV and currents in counts of 1 mA;
+//! blinders are milliohms, times milliseconds in the settings and samples within. A take is one ready
+//! sample; `clear` begins anew where one is missing. It stands on `apparent_impedance` for the impedance as
+//! a fraction, on `relay_settings` for blinders and times, on `sample_windows` for windows over takes, and
+//! on `relay_num` for complex numbers.
+#![tactic(auto)]
+
+mod blinders;
+mod swing;
+#[cfg(test)]
+mod tests;
+
+pub use blinders::{SwingPlace, swing_place, unbalanced};
+pub use swing::Swing;
