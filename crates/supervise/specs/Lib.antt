@@ -1,0 +1,4 @@
+pub mod Fusing
+pub mod Fuses
+pub mod Load
+pub mod Current

@@ -1,0 +1,19 @@
+//! What supervises the zones: a blown fuse of the voltage transformer, load, and the least current of a loop.
+//!
+//! Phasors and sequence parts have voltages in counts of 10 mV and currents in counts of 1 mA, sequence parts
+//! being three times the component; the load's resistance is in milliohms and its slope in thousandths; times
+//! are milliseconds in the settings and samples within. A take of the fuse is one ready sample; `clear` begins
+//! anew where one is missing. It stands on `apparent_impedance` for the impedance as a fraction, on
+//! `loop_impedance` for the order of phases and loops, on `relay_settings` for the settings, on
+//! `sample_windows` for windows over takes, and on `relay_num` for complex numbers.
+#![tactic(auto)]
+
+mod current;
+mod fuse;
+mod load;
+#[cfg(test)]
+mod tests;
+
+pub use current::current_allowed;
+pub use fuse::Fuse;
+pub use load::load_blocks;
