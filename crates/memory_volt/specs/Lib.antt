@@ -1,2 +1,3 @@
 pub mod Polarising
+pub mod NumberedPolarising
 pub mod Held

@@ -63,14 +63,7 @@ impl MemoryVolt {
             StandsFor n hold (take_of plus low ∷ takes) self.new }
         ensures cost { steps.new ≡ steps.old + 1 }
     {
-        let voltage = (!low).then_some(plus);
-        let cycle_before = self.voltages.push(voltage, steps).flatten();
-        self.frozen = if low {
-            self.remembered(cycle_before)
-        } else {
-            voltage
-        };
-        self.run = run_after(self.run, self.hold, low);
+        self.note(plus, low, steps);
         self.frozen
     }
 
@@ -82,6 +75,22 @@ impl MemoryVolt {
         self.voltages.clear();
         self.run = 0;
         self.frozen = None;
+    }
+
+    /// A voltage that leaves the last cycle and one more is a whole cycle older than the one before this take.
+    fn note<L: Ledger>(&mut self, plus: Cx, low: bool, steps: &mut Steps<L>)
+        ensures after { (n hold : ℕ) (takes : List VoltTake) → StandsFor n hold takes self.old →
+            StandsFor n hold (take_of plus low ∷ takes) self.new }
+        ensures cost { steps.new ≡ steps.old + 1 }
+    {
+        let voltage = (!low).then_some(plus);
+        let cycle_before = self.voltages.push(voltage, steps).flatten();
+        self.frozen = if low {
+            self.remembered(cycle_before)
+        } else {
+            voltage
+        };
+        self.run = run_after(self.run, self.hold, low);
     }
 
     /// What polarises at one more low take: the voltage of a cycle before at the first of a run, then the same
