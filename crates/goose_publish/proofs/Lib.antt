@@ -1,4 +1,5 @@
 pub mod ChangeLemmas
+pub mod FrameLemmas
 pub mod OffsetLemmas
 pub mod PassedOffsets
 pub mod ScheduleLemmas

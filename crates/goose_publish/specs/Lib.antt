@@ -6,3 +6,4 @@ pub mod Paces
 pub mod Schedules
 pub mod Publishers
 pub mod Laws
+pub mod FrameEnds

@@ -75,6 +75,8 @@ pub fn frame_bytes(common: &Common, goose: &GooseSettings, send: &Send) -> Array
     requires vlan_id { goose.now.vlan_id ≤ 4095 }
     ensures bytes { result.items ≡ frame_bytes common.now (plain_goose goose.now) send.now }
     ensures long { length result.items ≤ 640 }
+    ensures fields { length (fields_bytes common.now (plain_goose goose.now) send.now) ≤ 600 }
+    ensures addresses { (length goose.now.dst ≡ 6) × (length goose.now.src ≡ 6) }
 {
     let fields = fields(common, goose, send);
     let mut pdu = ArrayVec::new();

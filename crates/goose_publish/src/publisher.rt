@@ -26,7 +26,8 @@ impl Publisher {
     ghost use Rattle.relay_settings.specs.Ranges.{IsCommon, IsGoose};
     ghost use Rattle.goose_publish.specs.Publishing.{PointsTake, take_of, RisesTo, send_of};
     ghost use Rattle.goose_publish.specs.Sends.{IsSentAt};
-    ghost use Rattle.goose_publish.specs.Frame.{frame_bytes};
+    ghost use Rattle.goose_publish.specs.Frame.{fields_bytes, frame_bytes};
+    ghost use Rattle.goose_publish.specs.FrameEnds.{EndsAtItsLength};
     ghost use Rattle.goose_publish.specs.Publishers.{HasSettings, StandsFor};
 
     /// One that has taken nothing. The settings are in their ranges.
@@ -70,6 +71,9 @@ impl Publisher {
     pub fn frame_bytes(&self, send: &Send) -> ArrayVec<u8, 1024>
         ensures bytes { (common : Common) (goose : PlainGoose) → HasSettings common goose self.now →
             result.items ≡ frame_bytes common goose send.now }
+        // A reader that goes by Length and by the basic encoding rules finds the PDU, and nothing behind it.
+        ensures ends { (common : Common) (goose : PlainGoose) → HasSettings common goose self.now →
+            EndsAtItsLength (fields_bytes common goose send.now) result.items }
         ensures long { length result.items ≤ 640 }
     {
         frame_bytes(&self.common, &self.goose, send)
