@@ -13,7 +13,9 @@ apparent_below u i h k =
       re = size-product (pos 10000) u.re 10001 (2 ^ 32) (omega arith) h.re;
       im = size-product (pos 10000) u.im 10001 (2 ^ 32) (omega arith) h.im;
     } in
-    IsBelow-weaker _ _ (2 ^ 80) (IsBelow-product (scaled 10000 u) (conjugate i) (10001 * 2 ^ 32) (2 ^ 32) volts (IsBelow-conjugate i (2 ^ 32) k)) (lit≤ tt)
+    let current = IsBelow-conjugate i (2 ^ 32) k in
+    IsBelow-weaker _ _ (2 ^ 80)
+    (IsBelow-product (scaled 10000 u) (conjugate i) (10001 * 2 ^ 32) (2 ^ 32) volts current) (lit≤ tt)
 
 pub norm_below : (i : Cx) → IsBelow i (2 ^ 32) → unsigned_abs (norm i) < 2 ^ 66
 norm_below i h = omega (arith, size-norm i (2 ^ 32) h)
