@@ -1,1 +1,2 @@
 mod SwingLemmas
+pub mod NumberedSwingLemmas

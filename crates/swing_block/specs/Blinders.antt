@@ -1,5 +1,5 @@
--- The blinders of a power swing (Phadke and Thorp, Computer Relaying for Power Systems): two rectangles about the origin
--- of the impedance plane, in which the apparent impedance of the positive sequence moves.
+-- The blinders of a power swing (Phadke and Thorp, Computer Relaying for Power Systems): two rectangles about the
+-- origin of the impedance plane, in which the apparent impedance of the positive sequence moves.
 use Rattle.std.specs.Prelude.{ℤ, pos, ◌*◌, ◌*ℤ◌, Bool, ◌&&◌, if◌then◌else◌}
 use Rattle.std.specs.Int.RustNames.{int_lt, int_le}
 use Rattle.relay_num.specs.declared.Cx.{Cx}

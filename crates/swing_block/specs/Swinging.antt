@@ -51,7 +51,8 @@ unbalanced_now (t ∷ older) = t.unbalanced
 -- There is a swing at the newest take where one was declared in the run, first less than `most` takes ago, and the line
 -- isn't unbalanced.
 abbrev pub blocks : ℕ → ℕ → List SwingTake → Bool
-blocks pass most takes = (was_declared pass takes && nat_lt (first_declared pass takes) most) && not (unbalanced_now takes)
+blocks pass most takes =
+    (was_declared pass takes && nat_lt (first_declared pass takes) most) && not (unbalanced_now takes)
 
 -- the same by the settings, at so many samples a second
 abbrev pub is_swing : SwingSettings → ℕ → List SwingTake → Bool

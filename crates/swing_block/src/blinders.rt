@@ -46,8 +46,10 @@ impl SwingPlace {
     }
 }
 
-/// Where the impedance of three times the positive sequence, the voltage `u1` and the current `i1`, lies
-/// among the blinders. Without current it is outside. Parts are below 2^32 in size.
+/// Where the impedance of the positive sequence lies: of 3U1, `u1`, in counts of 10 mV, and 3I1, `i1`, in
+/// counts of 1 mA, whose parts are below 2^32 in size. `Inner` where resistance and reactance are at most
+/// `inner_r` and `inner_x` in size, else `Between` where they are at most `outer_r` and `outer_x`, else
+/// `Outside`; without current it is `Outside`.
 pub fn swing_place(s: &SwingSettings, u1: Cx, i1: Cx) -> SwingPlace
     requires settings { IsSwing s.now }
     requires u1 { IsBelow u1 (2 ^ 32) }
@@ -74,9 +76,8 @@ fn is_within_blinder(z: &Impedance, r: i64, x: i64) -> bool
     (z.square > 0) & (z.resistance <= z.milliohms(r)) & (z.reactance <= z.milliohms(x))
 }
 
-/// Whether the line is unbalanced, and so has a fault and no swing: the negative sequence `i2` has at least
-/// its share of the positive sequence `i1`, each three times the component. Without any current it is.
-/// Parts are below 2^32 in size.
+/// Whether the line is unbalanced, and so has a fault and no swing: 3I2, `i2`, is at least `i2_share`
+/// thousandths of 3I1, `i1`, in size. A line without any current is. Parts are below 2^32 in size.
 pub fn unbalanced(s: &SwingSettings, i1: Cx, i2: Cx) -> bool
     requires settings { IsSwing s.now }
     requires i1 { IsBelow i1 (2 ^ 32) }
