@@ -1,1 +1,2 @@
 mod FuseLemmas
+pub mod NumberedFuseLemmas

@@ -1,4 +1,5 @@
 pub mod Fusing
 pub mod Fuses
+pub mod NumberedFuse
 pub mod Load
 pub mod Current

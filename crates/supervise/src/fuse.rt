@@ -7,8 +7,8 @@ use relay_settings::{FuseSettings, samples_of};
 /// The fuse rule over the takes since the last `clear`.
 ///
 /// A blown fuse of the voltage transformer makes negative sequence in the voltage and none in the current;
-/// such a take is suspect. From the newest suspect take on the fuse counts as blown for `hold_ms`, and not
-/// at a take at which the current has negative sequence, since then there is a fault.
+/// such a take is suspect. From the newest suspect take on the fuse counts as blown for `hold_ms`, but not
+/// at a take at which the current has negative sequence, since there is a fault then.
 #[derive(Drop)]
 pub struct Fuse {
     /// `hold_ms` in samples.
@@ -24,7 +24,7 @@ impl Fuse {
     ghost use Rattle.supervise.specs.Fusing.{FuseTake, take_of, is_blown};
     ghost use Rattle.supervise.specs.Fuses.{StandsFor};
 
-    /// Nothing taken yet. `rate` is 4800 or 4000 samples a second.
+    /// A fuse with these settings that has taken nothing. `rate` is 4800 or 4000 samples a second.
     pub fn new(s: &FuseSettings, rate: u32) -> Fuse
         requires settings { IsFuse s.now }
         requires rate { (rate ≡ 4800) ⊎ (rate ≡ 4000) }
@@ -36,8 +36,9 @@ impl Fuse {
         }
     }
 
-    /// Takes the next sample, and answers whether the fuse counts as blown: `u2_high` where 3U2 is at least
-    /// `u2_min`, and `i2_low` where 3I2 is below `i2_max`.
+    /// Takes the next sample: `u2_high` where 3U2 is at least `u2_min`, `i2_low` where 3I2 is below `i2_max`.
+    /// The answer is whether the fuse counts as blown: `i2_low`, and both were so at a take less than `hold_ms`
+    /// ago, this one included. A take with high current answers false and ends nothing.
     pub fn take(&mut self, u2_high: bool, i2_low: bool) -> bool
         ensures blown { (s : FuseSettings) (rate : ℕ) (takes : List FuseTake) → StandsFor s rate takes self.old →
             result ≡ is_blown s rate (take_of u2_high i2_low ∷ takes) }
@@ -49,9 +50,10 @@ impl Fuse {
         i2_low & is_held
     }
 
-    /// Forgets what was taken.
+    /// Forgets all takes: the next one is the first. The settings stay.
     pub fn clear(&mut self)
-        ensures { (s : FuseSettings) (rate : ℕ) (takes : List FuseTake) → StandsFor s rate takes self.old → StandsFor s rate [] self.new }
+        ensures { (s : FuseSettings) (rate : ℕ) (takes : List FuseTake) → StandsFor s rate takes self.old →
+            StandsFor s rate [] self.new }
     {
         self.left = 0;
     }

@@ -10,10 +10,10 @@ use apparent_impedance::{Impedance, impedance_of};
 use relay_num::Cx;
 use relay_settings::LoadSettings;
 
-/// Whether the impedance of three times the positive sequence, the voltage `u1` and the current `i1`, is that
-/// of load, which no zone may take for a fault between phases: its resistance is at least `r`, in either
-/// direction, and its reactance at most `slope` thousandths of the resistance. Without current there is no
-/// load. Parts are below 2^32 in size.
+/// Whether the impedance of the positive sequence is that of load, which is no fault between phases: of 3U1,
+/// `u1`, in counts of 10 mV, and 3I1, `i1`, in counts of 1 mA, whose parts are below 2^32 in size. It is where
+/// the resistance is at least `r` in size, in either direction, and the reactance at most `slope` thousandths
+/// of the resistance. Without current there is no load.
 pub fn load_blocks(s: &LoadSettings, u1: Cx, i1: Cx) -> bool
     requires settings { IsLoad s.now }
     requires u1 { IsBelow u1 (2 ^ 32) }

@@ -6,13 +6,17 @@ use Rattle.supervise.proofs.fuse.Fuse.take.Goals as goal
 
 pub returns-clause-blown : goal.returns-clause-blown
 returns-clause-blown c s rate takes stands =
+    let old = c.args.self.now in
     let t = take_of c.args.u2_high c.args.i2_low in
-    ap (λ n. c.args.i2_low && nat_lt 0 n) (left_is c.args.self.now.hold c.args.self.now.left t takes _ stands.left c.left_after-self.ensures)
-    ∙ sym (blown_is c.args.self.now.hold t takes)
+    ap (λ n. c.args.i2_low && nat_lt 0 n) (left_is old.hold old.left t takes _ stands.left c.left_after-self.ensures)
+    ∙ sym (blown_is old.hold t takes)
     ∙ ap (λ hold. counts_as_blown hold (t ∷ takes)) stands.hold
 
 pub returns-clause-after : goal.returns-clause-after
-returns-clause-after c s rate takes stands = record {
-  hold = stands.hold;
-  left = left_is c.args.self.now.hold c.args.self.now.left (take_of c.args.u2_high c.args.i2_low) takes _ stands.left c.left_after-self.ensures;
-}
+returns-clause-after c s rate takes stands =
+    let old = c.args.self.now in
+    let t = take_of c.args.u2_high c.args.i2_low in
+    record {
+      hold = stands.hold;
+      left = left_is old.hold old.left t takes _ stands.left c.left_after-self.ensures;
+    }
