@@ -36,7 +36,7 @@ is_declared pass takes = each_of_last pass (λ t. is_between t.place) takes
 abbrev pub run : List SwingTake → ℕ
 run takes = prefix_len (λ t. is_within t.place) takes
 
--- whether a swing was declared at a take of the run, so many takes back
+-- whether a swing was declared at some take of the run
 unfoldable pub was_declared : ℕ → List SwingTake → Bool
 was_declared pass takes = any_below (run takes) (λ back. is_declared pass (drop back takes))
 
