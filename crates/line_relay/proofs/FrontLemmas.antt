@@ -1,5 +1,5 @@
--- The run of good samples, and the numbers of the samples that were taken.
-use Rattle.std.proofs.Common.{◌≡◌, ℕ, suc, ◌+◌, ◌≤◌, ◌==◌, min, Bool, true, false, cond, eqb, leb, refl, sym, ◌∙◌, arith, List, [], ◌∷◌, if◌then◌else◌, Option, Some, None, length, ap, unwrap_or, inl, inr}
+-- The samples of a front: their numbers rise, and each has eight values.
+use Rattle.std.proofs.Common.{◌≡◌, ℕ, zero, suc, ◌+◌, ◌<◌, ◌≤◌, ◌==◌, Bool, true, false, cond, refl, sym, ◌∙◌, arith, List, [], ◌∷◌, Option, Some, None, length, drop, replicate, ℤ, pos, ap, unwrap_or, inl, inr}
 use Rattle.std.specs.Prelude.{is_some}
 use Rattle.relay_settings.specs.Ranges.{IsCommon}
 use Rattle.std.proofs.lemmas.Bool.{lt-leb, false≢true}
@@ -17,38 +17,17 @@ use Rattle.sample_stream.specs.Numbering.{outcome, Follows}
 use Rattle.sample_stream.specs.declared.numberer.Taken.{Taken}
 use Rattle.sample_stream.specs.declared.numberer.Taken.TheVariants.{First, Next, Jump, Repeat, Late, Wild}
 use Rattle.sample_stream.proofs.Follows.{outcome_follows}
+use Rattle.relay_num.specs.declared.Cx.{Cx}
+use Rattle.sample_stream.specs.declared.sample.Sample.{Sample}
+use Rattle.sample_stream.specs.Samples.{is_good, used_values}
+use Rattle.line_relay.specs.declared.front.Outcome.{Outcome}
 use Rattle.line_relay.specs.declared.front.Outcome.TheVariants.{ConfRev, Length, Counter}
-use Rattle.line_relay.specs.Samples.{Numbered, number_of_sample, newest_of, good_now, needed, is_ready, follows_last}
-use Rattle.line_relay.specs.Outcomes.{number_taken, with_sample, taken_samples, taken_number}
-
-full : (n m : ℕ) → eqb (min n m) m ≡ leb m n
-full n m = grind (arith, nat_tests)
-
--- the count of good samples after one more
-pub run_next : (window : ℕ) (s : Numbered) (samples : List Numbered) (follows : Bool) (before run : ℕ) →
-    before ≡ min (run_of number_of_sample good_now samples) window → follows ≡ follows_last (newest_of samples) s.number →
-    run ≡ (if s.sample.good then min ((if follows then before else 0) + 1) window else 0) →
-    run ≡ min (run_of number_of_sample good_now (s ∷ samples)) window
-unfolding run_of
-run_next window s [] follows before run b f e = alone s.sample.good _ window run (rw f at e)
-  where
-    alone : (good q : Bool) (w run : ℕ) → run ≡ (if good then min (0 + 1) w else 0) → run ≡ min (cond good (cond q 1 1) 0) w
-    alone true true w run e = e
-    alone true false w run e = e
-    alone false q w run e = omega arith
-run_next window s (newest ∷ older) follows before run b f e = step s.sample.good _ (run_of number_of_sample good_now (newest ∷ older)) window before run b (rw f at e)
-  where
-    step : (good next : Bool) (r w before run : ℕ) → before ≡ min r w → run ≡ (if good then min ((if next then before else 0) + 1) w else 0) →
-        run ≡ min (cond good (cond next (suc r) 1) 0) w
-    step true true r w before run b e = omega arith
-    step true false r w before run b e = omega arith
-    step false next r w before run b e = omega arith
-
--- a whole cycle is there exactly where the count is full
-pub ready_is : (n : ℕ) (mimic : Option Mimic) (samples : List Numbered) (run : ℕ) → Rises number_of_sample samples →
-    run ≡ min (run_of number_of_sample good_now samples) (n + needed mimic) → is_ready n mimic samples ≡ eqb run (n + needed mimic)
-ready_is n mimic samples run r e =
-    rw e (held_for-run number_of_sample good_now refl (n + needed mimic) samples r ∙ sym (full _ (n + needed mimic)))
+use Rattle.line_relay.specs.declared.front.Step.{Step}
+use Rattle.line_relay.specs.Samples.{Numbered, number_of_sample, newest_of, good_now, values_now, needed, is_ready}
+use Rattle.line_relay.specs.Windows.{is_cycle}
+use Rattle.line_relay.proofs.CycleLemmas.{AllEight}
+use Rattle.line_relay.specs.Outcomes.{number_taken, sample_in, with_sample, outcome_of, taken_samples, taken_number}
+use Rattle.line_relay.specs.Steps.{step_by}
 
 pub never_ready : (n : ℕ) (mimic : Option Mimic) → 1 ≤ n → is_ready n mimic [] ≡ false
 unfolding run_of
@@ -90,6 +69,33 @@ module _ (common : Common) (settings : PlainLine) where
       step before true false = before
       step before false long = before
 
+  eight_next : (number : Option ℕ) (a : PlainAsdu) (ss : List Numbered) → length (sample_in common settings a).values ≡ 8 → AllEight ss →
+      AllEight (with_sample common settings number a ss)
+  eight_next None a ss e h = h
+  eight_next (Some n) a ss e h = λ k lt. each k lt
+    where
+      each : (k : ℕ) → k < suc (length ss) → length (values_now (drop k (record { number = n; sample = sample_in common settings a } ∷ ss))) ≡ 8
+      each zero lt = e
+      each (suc k) lt = h k (omega arith)
+
+  sample_eight : (a : PlainAsdu) → length (sample_in common settings a).values ≡ 8
+  sample_eight a = either (is_good settings.quality_mask settings.synch_min a.synch (unwrap_or (channels_of a.samples) []))
+    where
+      either : (good : Bool) →
+          length (cond {A = Sample} good (record { values = used_values (unwrap_or (channels_of a.samples) []); good = true }) (record { values = replicate 8 (pos 0); good = false })).values ≡ 8
+      either true = refl
+      either false = refl
+
+  -- each of the samples has eight values
+  pub eights : (asdus : List PlainAsdu) → AllEight (taken_samples common settings asdus)
+  eights [] = λ k lt. absurd (omega arith)
+  eights (a ∷ older) = eight_next (number_taken (outcome_of common settings a older)) a (taken_samples common settings older) (sample_eight a) (eights older)
+
+  samples_by : (o : Outcome) (number : Option ℕ) (a : PlainAsdu) (ss : List Numbered) →
+      is_some (step_by common settings o number a (with_sample common settings number a ss)).sample ≡ false → with_sample common settings number a ss ≡ ss
+  samples_by o None a ss e = refl
+  samples_by o (Some n) a ss e = absurd (false≢true (sym e))
+
 -- a cycle has some samples
 pub some_cycle : (common : Common) → IsCommon common → (1 ≤ common.n) × (common.n ≤ 96)
 some_cycle common is = elim is.cycle [
@@ -98,10 +104,13 @@ some_cycle common is = elim is.cycle [
   | inr (inr third) ↦ omega (arith, third.2)
 ]
 
-pub needed_one : (mimic : Option Mimic) → is_some mimic ≡ true → needed mimic ≡ 1
-needed_one None h = absurd (false≢true h)
-needed_one (Some m) h = refl
 
-pub needed_none : (mimic : Option Mimic) → is_some mimic ≡ false → needed mimic ≡ 0
-needed_none None h = refl
-needed_none (Some m) h = absurd (false≢true (sym h))
+pub cycle_some : (n : ℕ) → is_cycle n ≡ true → 0 < n
+cycle_some zero e = absurd (false≢true e)
+cycle_some (suc n) e = omega arith
+
+pub cycle_few : (n : ℕ) → is_cycle n ≡ true → n ≤ 96
+cycle_few n e = grind (arith, nat_tests)
+
+abbrev pub step_taken : Outcome → Sample → Option (List Cx) → Step
+step_taken o s p = record { outcome = o; sample = Some s; phasors = p }

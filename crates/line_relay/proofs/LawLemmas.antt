@@ -6,7 +6,8 @@ use Rattle.relay_settings.specs.Settings.{PlainLine}
 use Rattle.sv_frame.specs.Asdu.{PlainAsdu}
 use Rattle.event_record.specs.Time.{time_of}
 use Rattle.event_record.specs.declared.event.Event.{Event}
-use Rattle.line_relay.specs.Samples.{Numbered, newest_of, is_ready}
+use Rattle.line_relay.specs.Samples.{Numbered, newest_of}
+use Rattle.line_relay.specs.Facts.{facts_of}
 use Rattle.line_relay.specs.Outcomes.{number_taken, with_sample, outcome_after, taken_samples, outcome_of}
 use Rattle.line_relay.specs.Events.{arrival, changes, told}
 use Rattle.line_relay.specs.Bursts.{UntakenKeeps}
@@ -21,7 +22,7 @@ module _ (common : Common) (settings : PlainLine) where
   burst_by a samples =
       told (option_map (time_of common) (newest_of (samples_with a samples)))
       (arrival a.counter (outcome_after common settings (newest_of samples) a)
-      ++ changes (record { ready = is_ready common.n settings.mimic samples }) (record { ready = is_ready common.n settings.mimic (samples_with a samples) }))
+      ++ changes (facts_of common settings samples) (facts_of common settings (samples_with a samples)))
 
   kept : (later : List PlainAsdu) (a : PlainAsdu) (older : List PlainAsdu) → number_taken (outcome_of common settings a older) ≡ None →
       taken_samples common settings (later ++ a ∷ older) ≡ taken_samples common settings (later ++ older)

@@ -1,3 +1,6 @@
+mod FilterLemmas
+mod CycleLemmas
 mod FrontLemmas
+mod FactLemmas
 mod LawLemmas
 mod EventLemmas

@@ -8,14 +8,14 @@ use Rattle.event_record.specs.declared.time.At.{At}
 use Rattle.event_record.specs.declared.event.Event.{Event}
 use Rattle.event_record.specs.Time.{time_of}
 use Rattle.line_relay.specs.declared.events.Facts.{Facts}
-use Rattle.line_relay.specs.Samples.{is_ready}
+use Rattle.line_relay.specs.Facts.{facts_of}
 use Rattle.line_relay.specs.Outcomes.{number_taken, taken_samples, taken_number, outcome_of}
 use Rattle.line_relay.specs.Events.{arrival, changes, told}
 
 module _ (common : Common) (settings : PlainLine) where
   -- what holds at the newest taken sample, formed anew from all of them
   abbrev pub facts : List PlainAsdu → Facts
-  facts asdus = record { ready = is_ready common.n settings.mimic (taken_samples common settings asdus) }
+  facts asdus = facts_of common settings (taken_samples common settings asdus)
 
   -- the moment of the newest taken sample
   abbrev pub moment : List PlainAsdu → Option At

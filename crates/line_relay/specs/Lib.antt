@@ -1,6 +1,11 @@
 pub mod Samples
+pub mod Phasors
 pub mod Outcomes
+pub mod Steps
+pub mod Windows
+pub mod Fronts
+pub mod Zones
+pub mod Facts
 pub mod Events
 pub mod Bursts
-pub mod Fronts
 pub mod Lines

@@ -4,6 +4,7 @@ use Rattle.relay_settings.specs.declared.types.Common.{Common}
 use Rattle.relay_settings.specs.Settings.{PlainLine}
 use Rattle.sv_frame.specs.Asdu.{PlainAsdu}
 use Rattle.line_relay.specs.declared.line.Line.{Line}
+use Rattle.line_relay.specs.Zones.{k0_of, zone_of}
 use Rattle.line_relay.specs.Bursts.{facts}
 use Rattle.line_relay.specs.Fronts.{StandsFor as FrontStandsFor}
 
@@ -18,5 +19,7 @@ name_of line = line.name.items
 pub record StandsFor (common : Common) (settings : PlainLine) (asdus : List PlainAsdu) (line : Line) : Type 0 where
   pub same_common : line.common ≡ common
   pub name : name_of line ≡ settings.name
+  pub k0 : line.k0 ≡ k0_of settings
+  pub zone : line.zone ≡ zone_of settings.zones
   pub front : FrontStandsFor common settings asdus line.front
   pub shown : line.shown ≡ facts common settings asdus

@@ -1,11 +1,21 @@
-//! The front of a line: which sample sets are taken, and whether a whole cycle of good samples is there.
-ghost use Rattle.std.specs.Prelude.{◌≡◌, ◌<◌, ◌^◌};
+//! The front of a line: which sample sets are taken, which samples are good, and the phasors of a whole cycle of them.
+ghost use Rattle.std.specs.Prelude.{◌≡◌, ◌^◌, true};
 ghost use Rattle.std.specs.Option.{ForSome};
-ghost use Rattle.line_relay.specs.Samples.{follows_last};
+ghost use Rattle.lanes.specs.Lanes.{AllBelow};
+ghost use Rattle.cycle_phasor.specs.Sliding.{values_left};
+ghost use Rattle.cycle_phasor.specs.Window.{IsSliding};
+ghost use Rattle.relay_settings.specs.Ranges.{IsMimic};
+ghost use Rattle.line_relay.specs.Windows.{is_cycle, next_after};
 
-use relay_settings::{Common, LineSettings};
-use sample_stream::{Numberer, Taken, sample_of};
-use sample_windows::run_after;
+use crate::filter::{filtered, kept};
+use crate::window::note;
+use cycle_phasor::Slider;
+use relay_num::{Cx, NoMemory, Steps};
+use relay_settings::{Common, LineSettings, Mimic};
+use sample_ring::History;
+use sample_stream::{Numberer, Sample, Taken, sample_of};
+use std::alloc::Global;
+use std::sync::ledger::Ledger;
 use sv_frame::Asdu;
 
 /// What becomes of a sample set of the line.
@@ -19,97 +29,134 @@ pub enum Outcome {
     Counter(Taken),
 }
 
-/// The last number, and the run of good samples that ends there.
+/// What the front says of a sample set.
+#[derive(Clone, Copy)]
+pub struct Step {
+    pub outcome: Outcome,
+    /// The sample, exactly where the sample set is taken.
+    pub sample: Option<Sample>,
+    /// The phasors of IA, IB, IC, IN, UA, UB, UC and UN, exactly where the sample is ready.
+    pub phasors: Option<[Cx; 8]>,
+}
+
+impl Step {
+    ghost use Rattle.std.specs.Prelude.{◌≡◌};
+    ghost use Rattle.line_relay.specs.Steps.{step_untaken};
+
+    fn untaken(outcome: Outcome) -> Step
+        ensures { result ≡ step_untaken outcome }
+    {
+        Step {
+            outcome,
+            sample: None,
+            phasors: None,
+        }
+    }
+}
+
+/// The last number, and the sums over the last run of good samples.
 #[derive(Drop)]
 pub struct Front {
     numberer: Numberer,
+    n: u32,
     conf_rev: u32,
     quality_mask: u32,
     synch_min: u8,
-    /// How many numbers in a row make a sample ready.
-    window: u32,
-    /// How many numbers in a row were taken and are good, counted up to `window`.
-    run: u32,
+    mimic: Option<Mimic>,
+    /// The values of the last sample, where it was good and a mimic filter needs them.
+    before: Option<[i64; 8]>,
+    /// The filtered values of the last good samples in a row, at most a cycle.
+    ring: History<[i64; 8]>,
+    /// Their sums.
+    slider: Slider,
+    ghost cycle: { is_cycle n ≡ true },
+    ghost factors: { ForSome mimic IsMimic },
+    ghost small: { AllBelow (values_left before) (2 ^ 28) },
+    ghost sliding: { IsSliding n (next_after numberer.last) ring slider },
 }
 
 impl Front {
-    ghost use Rattle.std.specs.Prelude.{ℕ, ◌≡◌, ◌<◌, ◌≤◌, ◌^◌, ◌+◌, Option, Some, None, List, [], ◌∷◌};
+    ghost use Rattle.std.specs.Prelude.{ℕ, ◌≡◌, ◌<◌, ◌≤◌, ◌^◌, ◌+◌, IfOk, None, List, [], ◌∷◌};
+    ghost use Rattle.std.specs.List.{All};
     ghost use Rattle.std.specs.Option.{ForSome};
+    ghost use Rattle.relay_num.specs.Numbers.{IsBelow};
     ghost use Rattle.relay_settings.specs.declared.types.Common.{Common};
     ghost use Rattle.relay_settings.specs.Settings.{PlainLine, plain_line};
-    ghost use Rattle.relay_settings.specs.Ranges.{IsCommon};
+    ghost use Rattle.relay_settings.specs.Ranges.{IsCommon, IsLine};
     ghost use Rattle.sv_frame.specs.Asdu.{PlainAsdu, plain_asdu};
-    ghost use Rattle.line_relay.specs.Samples.{is_ready};
-    ghost use Rattle.line_relay.specs.Outcomes.{outcome_of, taken_samples};
+    ghost use Rattle.line_relay.specs.Outcomes.{taken_number};
+    ghost use Rattle.line_relay.specs.Steps.{step_of};
     ghost use Rattle.line_relay.specs.Fronts.{StandsFor};
 
-    pub fn new(common: &Common, s: &LineSettings) -> Front
-        requires { IsCommon common.now }
-        ensures stands { StandsFor common.now (plain_line s.now) [] result }
-        ensures none { result.numberer.last ≡ None }
+    /// A front that has taken nothing. `NoMemory` comes only where the allocator has no room for a cycle
+    /// of samples; nothing is made then.
+    pub fn new(alloc: Global, common: &Common, s: &LineSettings) -> Result<Front, NoMemory>
+        requires common { IsCommon common.now }
+        requires settings { IsLine s.now }
+        ensures stands { IfOk result (λ front. StandsFor common.now (plain_line s.now) [] front) }
+        ensures none { IfOk result (λ front. front.numberer.last ≡ None) }
     {
-        let before = if s.mimic.is_some() { 1 } else { 0 };
-        Front {
+        let ring = History::new(alloc, common.n as usize)?;
+        Ok(Front {
             numberer: Numberer::new(common.rate),
+            n: common.n,
             conf_rev: s.conf_rev,
             quality_mask: s.quality_mask,
             synch_min: s.synch_min,
-            window: common.n + before,
-            run: 0,
-        }
+            mimic: s.mimic,
+            before: None,
+            ring,
+            slider: Slider::new(common.n),
+        })
     }
 
-    /// Takes the next sample set of the line, after all that came before, or says why it doesn't.
-    pub fn take(&mut self, a: &Asdu<'_>) -> Outcome
+    /// Takes the next sample set of the line, after all that came before, or says why it doesn't. The last
+    /// number has to be below 2^60. The phasors are those of the last whole cycle of taken and good
+    /// samples, formed anew. It takes no memory, and looks at the window at most once.
+    pub fn take<L: Ledger>(&mut self, a: &Asdu<'_>, steps: &mut Steps<L>) -> Step
         requires { ForSome self.old.numberer.last (λ last. last < 2 ^ 60) }
         ensures grows { (most : ℕ) → ForSome self.old.numberer.last (λ last. last ≤ most) → ForSome self.new.numberer.last (λ last. last ≤ most + 4800) }
-        ensures outcome { (common : Common) (settings : PlainLine) (asdus : List PlainAsdu) → StandsFor common settings asdus self.old →
-            result ≡ outcome_of common settings (plain_asdu a.now) asdus }
+        // By the sample sets before: for each list of them that the front stands for.
+        ensures step { (common : Common) (settings : PlainLine) (asdus : List PlainAsdu) → StandsFor common settings asdus self.old →
+            result ≡ step_of common settings (plain_asdu a.now) asdus }
         ensures after { (common : Common) (settings : PlainLine) (asdus : List PlainAsdu) → StandsFor common settings asdus self.old →
             StandsFor common settings (plain_asdu a.now ∷ asdus) self.new }
+        ensures small { ForSome result.phasors (λ phasors. All (λ p. IsBelow p (2 ^ 30 + 1)) phasors) }
+        ensures cost { steps.new ≤ steps.old + 1 }
     {
         if a.conf_rev != self.conf_rev {
-            return Outcome::ConfRev { got: a.conf_rev };
+            return Step::untaken(Outcome::ConfRev { got: a.conf_rev });
         }
         let Some(channels) = a.channels() else {
-            return Outcome::Length {
+            return Step::untaken(Outcome::Length {
                 got: a.samples.len() as u32,
-            };
+            });
         };
-        let before = self.numberer.last();
+        let next = match self.numberer.last() {
+            Some(last) => last + 1,
+            None => 0,
+        };
         let taken = self.numberer.take(a.counter);
         let Some(number) = taken.number() else {
-            return Outcome::Counter(taken);
+            return Step::untaken(Outcome::Counter(taken));
         };
         let sample = sample_of(&channels, self.quality_mask, a.synch, self.synch_min);
-        let run = if follows(before, number) { self.run } else { 0 };
-        self.run = run_after(run, self.window, sample.good);
-        Outcome::Counter(taken)
+        let values = filtered(self.mimic, self.before, number == next, &sample);
+        self.before = kept(self.mimic, &sample);
+        note(&mut self.ring, &mut self.slider, next, number, values, steps);
+        Step {
+            outcome: Outcome::Counter(taken),
+            sample: Some(sample),
+            phasors: self.slider.phasors(),
+        }
     }
 
-    /// Whether a whole cycle of taken and good samples ends at the last number.
-    pub fn is_ready(&self) -> bool
-        ensures { (common : Common) (settings : PlainLine) (asdus : List PlainAsdu) → StandsFor common settings asdus self.now →
-            result ≡ is_ready common.n settings.mimic (taken_samples common settings asdus) }
-    {
-        self.run == self.window
-    }
-
-    /// The last number that was taken.
+    /// The last number that was taken. `None` comes exactly where no sample was.
     pub fn last(&self) -> Option<u64>
-        ensures { result ≡ self.now.numberer.last }
+        ensures field { result ≡ self.now.numberer.last }
+        ensures last { (common : Common) (settings : PlainLine) (asdus : List PlainAsdu) → StandsFor common settings asdus self.now →
+            result ≡ taken_number common settings asdus }
     {
         self.numberer.last()
-    }
-}
-
-/// Whether no sample is missing between the last number and this one.
-fn follows(last: Option<u64>, number: u64) -> bool
-    requires { ForSome last (λ last. last < 2 ^ 60) }
-    ensures { result ≡ follows_last last number }
-{
-    match last {
-        Some(last) => number == last + 1,
-        None => false,
     }
 }

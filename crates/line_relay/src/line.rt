@@ -1,14 +1,18 @@
 //! One line.
-ghost use Rattle.std.specs.Prelude.{◌≡◌, ◌<◌, ◌≤◌, length};
-ghost use Rattle.std.specs.Option.{option_map};
+ghost use Rattle.std.specs.Prelude.{◌≡◌, ◌<◌, ◌≤◌, ◌+◌, ◌^◌, length};
+ghost use Rattle.std.specs.List.{All};
+ghost use Rattle.std.specs.Option.{option_map, ForSome};
+ghost use Rattle.relay_num.specs.Numbers.{IsBelow};
 ghost use Rattle.event_record.specs.Time.{time_of};
 ghost use Rattle.event_record.specs.Printable.{IsPrintableAt};
+ghost use Rattle.line_relay.specs.Facts.{facts_after as facts_after_step};
 
 use crate::events::{Facts, push_arrival, push_changes};
-use crate::front::Front;
+use crate::front::{Front, Step};
+use crate::zone::{MhoZone, is_inside, zone_of};
 use arrayvec::ArrayVec;
 use event_record::{At, Event, at_of};
-use relay_num::{NoMemory, Steps};
+use relay_num::{Cx, NoMemory, Steps};
 use relay_settings::{Common, LineSettings};
 use std::alloc::Global;
 use std::sync::ledger::Ledger;
@@ -25,9 +29,13 @@ pub struct Burst {
 pub struct Line {
     common: Common,
     name: ArrayVec<u8, 16>,
+    k0: Cx,
+    zone: Option<MhoZone>,
     front: Front,
     shown: Facts,
     ghost rated: { 1 < common.rate },
+    ghost compensation: { IsBelow k0 4001 },
+    ghost reach: { ForSome zone (λ zone. IsBelow zone.reach (2 ^ 20)) },
 }
 
 impl Line {
@@ -42,20 +50,33 @@ impl Line {
     ghost use Rattle.line_relay.specs.Bursts.{burst};
     ghost use Rattle.line_relay.specs.Outcomes.{taken_number};
     ghost use Rattle.line_relay.specs.Lines.{StandsFor, last_of, name_of};
+    ghost use Rattle.line_relay.specs.Zones.{IsBuilt};
 
-    /// A line that has taken nothing. `NoMemory` comes only for want of memory.
+    /// A line that has taken nothing. The settings ask for what is built: at most one zone, a mho without
+    /// delay that isn't reverse, and no swing, fuse or load table. `NoMemory` comes only where the allocator
+    /// has no room for a cycle of samples; nothing is made then.
     pub fn new(alloc: Global, common: &Common, s: &LineSettings) -> Result<Line, NoMemory>
         requires common { IsCommon common.now }
         requires settings { IsLine s.now }
+        requires built { IsBuilt (plain_line s.now) }
         ensures { IfOk result (λ line. StandsFor common.now (plain_line s.now) [] line × (last_of line ≡ None)) }
     {
-        // What a line keeps has a fixed size, so it takes no memory.
-        let _ = alloc;
+        let front = Front::new(alloc, common, s)?;
         Ok(Line {
             common: *common,
             name: copy_of(s.name.as_slice()),
-            front: Front::new(common, s),
-            shown: Facts { ready: false },
+            k0: Cx {
+                re: s.k0_re,
+                im: s.k0_im,
+            },
+            zone: zone_of(s.zones.as_slice()),
+            front,
+            shown: Facts {
+                ready: false,
+                inside: false,
+                operates: false,
+                trip: false,
+            },
         })
     }
 
@@ -73,15 +94,11 @@ impl Line {
         ensures name { name_of self.new ≡ name_of self.old }
         ensures cost { steps.new ≤ steps.old + 34 }
     {
-        // No history is looked at, and no zone is tested.
-        let _ = steps;
-        let outcome = self.front.take(a);
+        let step = self.front.take(a, steps);
         let at = moment(&self.common, self.front.last());
-        let now = Facts {
-            ready: self.front.is_ready(),
-        };
+        let now = facts_after(self.k0, self.zone, &self.shown, &step, steps);
         let mut events = ArrayVec::new();
-        push_arrival(&mut events, at, a.counter, outcome);
+        push_arrival(&mut events, at, a.counter, step.outcome);
         push_changes(&mut events, at, &self.shown, &now);
         self.shown = now;
         Burst { events }
@@ -102,6 +119,36 @@ impl Line {
         ensures short { length result.now ≤ 16 }
     {
         self.name.as_slice()
+    }
+}
+
+/// What holds after a step of the front. A sample set that isn't taken changes nothing.
+fn facts_after<L: Ledger>(
+    k0: Cx,
+    zone: Option<MhoZone>,
+    before: &Facts,
+    step: &Step,
+    steps: &mut Steps<L>,
+) -> Facts
+    requires k0 { IsBelow k0 4001 }
+    requires reach { ForSome zone (λ zone. IsBelow zone.reach (2 ^ 20)) }
+    requires phasors { ForSome step.now.phasors (λ phasors. All (λ p. IsBelow p (2 ^ 30 + 1)) phasors) }
+    ensures facts { result ≡ facts_after_step k0 zone before.now step.now.sample step.now.phasors }
+    ensures cost { steps.new ≤ steps.old + 1 }
+{
+    if step.sample.is_none() {
+        return *before;
+    }
+    let inside = is_inside(k0, zone, step.phasors, steps);
+    let may_trip = match zone {
+        Some(zone) => zone.trip,
+        None => false,
+    };
+    Facts {
+        ready: step.phasors.is_some(),
+        inside,
+        operates: inside,
+        trip: (inside && may_trip) || before.trip,
     }
 }
 

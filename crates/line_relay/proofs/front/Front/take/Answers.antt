@@ -1,67 +1,121 @@
-use Rattle.std.proofs.Common.{◌≡◌, ◌∙◌, ◌==◌, ◌+◌, min, ◌∷◌, [], true, refl, sym, ap, length, List, Some, unwrap_or, if◌then◌else◌}
-use Rattle.std.proofs.lemmas.Bool.{cond-true, cond-false, eq-eqb}
+use Rattle.std.proofs.Common.{◌<◌, ◌≤◌, subst, None, ◌≡◌, ℕ, ◌∙◌, ◌+◌, ◌==◌, true, refl, sym, ap, ap₂, arith, length, List, [], ◌∷◌, Some, Option, unwrap_or}
+use Rattle.std.proofs.lemmas.Bool.{eq-eqb}
+use Rattle.sample_windows.specs.Numbered.{Rises}
 use Rattle.relay_settings.specs.declared.types.Common.{Common}
 use Rattle.relay_settings.specs.Settings.{PlainLine}
 use Rattle.sv_frame.specs.Asdu.{PlainAsdu, plain_asdu}
 use Rattle.sv_frame.specs.Channels.{channels_of}
 use Rattle.sample_stream.specs.Taken.{number_of}
-use Rattle.line_relay.specs.declared.front.Outcome.TheVariants.{Counter}
-use Rattle.line_relay.specs.Samples.{Numbered, newest_of, number_of_sample, good_now, needed, follows_last}
-use Rattle.sample_windows.specs.Numbered.{run_of}
 use Rattle.sample_stream.specs.Numbering.{newer_or}
+use Rattle.cycle_phasor.specs.Window.{IsSliding}
+use Rattle.line_relay.specs.declared.front.Outcome.TheVariants.{Counter}
+use Rattle.line_relay.specs.Samples.{newest_of, Numbered, number_of_sample}
+use Rattle.line_relay.specs.Phasors.{phasors_of}
+use Rattle.line_relay.specs.Windows.{is_cycle, next_after, window, lanes_after, kept_now}
 use Rattle.line_relay.specs.Outcomes.{number_taken, sample_in, with_sample, taken_samples, taken_number, outcome_of}
+use Rattle.line_relay.specs.Steps.{step_by, step_of}
 use Rattle.line_relay.specs.Fronts.{StandsFor}
-use Rattle.line_relay.proofs.FrontLemmas.{run_next, channels_some}
+use Rattle.line_relay.proofs.CycleLemmas.{AllEight, window_next, phasors_are, phasors_small}
+use Rattle.line_relay.proofs.FrontLemmas.{rises, eights, cycle_some, cycle_few, channels_some, step_taken}
+use Rattle.relay_num.specs.Windows.{real_weight, imaginary_weight}
+use Rattle.relay_num.proofs.WaveLemmas.{real_weight_bound, imaginary_weight_bound}
+use Rattle.cycle_phasor.proofs.WindowLemmas.{totals_below}
+use Rattle.line_relay.proofs.front.Front.take.Given as given
 use Rattle.line_relay.proofs.front.Front.take.Goals as goal
-use Rattle.line_relay.proofs.front.Front.take.Goals.{then-follows, else-follows}
+use Rattle.line_relay.proofs.front.Front.take.Goals.{in-Some-last, in-None}
 
-module _ (c : goal.After-self-1) (common : Common) (settings : PlainLine) (asdus : List PlainAsdu) (stands : StandsFor common settings asdus c.args.self.now) where
+module _ (g : given.Over) (c : goal.After-phasors g) where
+  next : c.match-last.next ≡ next_after c.args.self.now.numberer.last
+  next = elim c.match-last.branch [
+    | in-Some-last w ↦ w.next-is ∙ ap next_after w.in-Some-last.ensures
+    | in-None w ↦ w.next-is ∙ ap next_after w.in-None.ensures
+  ]
+
   channels : ((length c.args.a.now.samples.now == 64) ≡ true) × (unwrap_or (channels_of c.args.a.now.samples.now) [] ≡ c.in-Some.channels)
   channels = channels_some c.args.a.now.samples.now c.in-Some.channels (sym c.channels.ensures ∙ c.in-Some.is)
 
   number : number_of c.take-taken.result ≡ Some c.in-Some-number.number
   number = sym c.number.ensures ∙ c.in-Some-number.is
 
-  revision : (c.args.a.now.conf_rev == settings.conf_rev) ≡ true
-  revision = eq-eqb _ _ (c.if-a-self.false ∙ stands.same_conf_rev)
+  module _ (common : Common) (settings : PlainLine) (asdus : List PlainAsdu) (stands : StandsFor common settings asdus c.args.self.now) where
+    abbrev a : PlainAsdu
+    a = plain_asdu c.args.a.now
 
-  came : outcome_of common settings (plain_asdu c.args.a.now) asdus ≡ Counter c.take-taken.result
-  came = rw (revision, channels.0) (ap Counter (sym (rw (stands.same_rate, stands.last) at c.take-taken.ensures.from_last)))
+    abbrev older : List Numbered
+    older = taken_samples common settings asdus
 
-  sample : c.sample_of-sample.result ≡ sample_in common settings (plain_asdu c.args.a.now)
-  sample = c.sample_of-sample.ensures.sample ∙ rw (stands.same_mask, stands.same_synch, channels.1) refl
+    revision : (c.args.a.now.conf_rev == settings.conf_rev) ≡ true
+    revision = eq-eqb _ _ (c.if-a-self.false ∙ stands.same_conf_rev)
 
-  abbrev newest : Numbered
-  newest = record { number = c.in-Some-number.number; sample = sample_in common settings (plain_asdu c.args.a.now) }
+    came : outcome_of common settings a asdus ≡ Counter c.take-taken.result
+    came = rw (revision, channels.0) (ap Counter (sym (rw (stands.same_rate, stands.last) at c.take-taken.ensures.from_last)))
 
-  newer : taken_samples common settings (plain_asdu c.args.a.now ∷ asdus) ≡ newest ∷ taken_samples common settings asdus
-  newer = ap (λ o. with_sample common settings (number_taken o) (plain_asdu c.args.a.now) (taken_samples common settings asdus)) came
-      ∙ ap (λ n. with_sample common settings n (plain_asdu c.args.a.now) (taken_samples common settings asdus)) number
+    sample : c.sample_of-sample.result ≡ sample_in common settings a
+    sample = c.sample_of-sample.ensures.sample ∙ rw (stands.same_mask, stands.same_synch, channels.1) refl
 
-  from_run : c.if-follows.run ≡ (if c.follows.result then c.args.self.now.run else 0)
-  from_run = elim c.if-follows.branch [
-    | then-follows w ↦ w.run-is ∙ sym (cond-true _ _ _ w.if-follows.true)
-    | else-follows w ↦ w.run-is ∙ sym (cond-false _ _ _ w.if-follows.false)
-  ]
+    abbrev newest : Numbered
+    newest = record { number = c.in-Some-number.number; sample = sample_in common settings a }
 
-  last : c.take-taken.new.self.last ≡ taken_number common settings (plain_asdu c.args.a.now ∷ asdus)
-  last = c.take-taken.ensures.last ∙ ap (λ n. newer_or n c.args.self.now.numberer.last) number ∙ sym (ap newest_of newer)
+    newer : taken_samples common settings (a ∷ asdus) ≡ newest ∷ older
+    newer = ap (λ o. with_sample common settings (number_taken o) a older) came
+        ∙ ap (λ n. with_sample common settings n a older) number
 
-  follows : c.follows.result ≡ follows_last (taken_number common settings asdus) c.in-Some-number.number
-  follows = c.follows.ensures ∙ ap (λ before. follows_last before c.in-Some-number.number) (c.last-before.ensures ∙ stands.last)
+    rising : Rises number_of_sample (newest ∷ older)
+    rising = subst (Rises number_of_sample) newer (rises common settings (a ∷ asdus))
 
-  run : c.run_after-self.result ≡ min (run_of number_of_sample good_now (taken_samples common settings (plain_asdu c.args.a.now ∷ asdus))) (common.n + needed settings.mimic)
-  run = run_next (common.n + needed settings.mimic) newest (taken_samples common settings asdus) c.follows.result c.args.self.now.run c.run_after-self.result stands.run follows
-      (c.run_after-self.ensures ∙ rw (sample, from_run, stands.window) refl)
-      ∙ sym (ap (λ samples. min (run_of number_of_sample good_now samples) (common.n + needed settings.mimic)) newer)
+    cycle : c.args.self.now.slider.n ≡ common.n
+    cycle = c.args.self.now.sliding.cycle ∙ stands.same_n
+
+    values : c.filtered-values.result ≡ lanes_after settings.mimic (kept_now settings.mimic older) (c.in-Some-number.number == next_after (newest_of older)) (sample_in common settings a)
+    values = c.filtered-values.ensures.lanes ∙ rw (next, stands.last, sample, stands.same_mimic, stands.before) refl
+
+    items : c.note.new.ring.items ≡ window common.n settings.mimic (newest ∷ older)
+    items = c.note.ensures.items
+        ∙ rw (values, cycle, next, stands.last, stands.items) refl
+        ∙ sym (window_next common.n settings.mimic newest older)
+
+    some : 0 < common.n
+    some = cycle_some common.n (subst (λ n. is_cycle n ≡ true) stands.same_n c.args.self.now.cycle)
+
+    kept : c.kept-self.result ≡ kept_now settings.mimic (newest ∷ older)
+    kept = c.kept-self.ensures.kept ∙ rw (sample, stands.same_mimic) refl
+
+    sliding : IsSliding common.n (c.in-Some-number.number + 1) c.note.new.ring c.note.new.slider
+    sliding = subst (λ n. IsSliding n (c.in-Some-number.number + 1) c.note.new.ring c.note.new.slider) cycle c.note.ensures.state
+
+    phasors : c.phasors.result ≡ phasors_of common.n settings.mimic (newest ∷ older)
+    phasors = phasors_are common.n settings.mimic (newest ∷ older) c.note.new.ring c.note.new.slider rising (subst AllEight newer (eights common settings (a ∷ asdus))) some sliding items
+        c.phasors.result c.phasors.ensures.lanes_re c.phasors.ensures.lanes_im c.phasors.ensures.none c.phasors.ensures.some
+
+    told : step_of common settings a asdus ≡ step_by common settings (Counter c.take-taken.result) (Some c.in-Some-number.number) a (newest ∷ older)
+    told = ap (λ o. step_by common settings o (number_taken o) a (taken_samples common settings (a ∷ asdus))) came
+        ∙ ap (λ n. step_by common settings (Counter c.take-taken.result) n a (taken_samples common settings (a ∷ asdus))) number
+        ∙ ap (step_by common settings (Counter c.take-taken.result) (Some c.in-Some-number.number) a) newer
+
+    last : c.take-taken.new.self.last ≡ taken_number common settings (a ∷ asdus)
+    last = c.take-taken.ensures.last ∙ ap (λ n. newer_or n c.args.self.now.numberer.last) number ∙ sym (ap newest_of newer)
+
+pub returns-clause-step : goal.returns-clause-step
+returns-clause-step g c common settings asdus stands =
+    ap₂ (λ s p. step_taken (Counter c.take-taken.result) s p) (sample g c common settings asdus stands) (phasors g c common settings asdus stands) ∙ sym (told g c common settings asdus stands)
 
 pub returns-clause-after : goal.returns-clause-after
-returns-clause-after c common settings asdus stands = record {
+returns-clause-after g c common settings asdus stands = record {
   same_rate = c.take-taken.ensures.same_rate ∙ stands.same_rate;
+  same_n = stands.same_n;
   same_conf_rev = stands.same_conf_rev;
   same_mask = stands.same_mask;
   same_synch = stands.same_synch;
-  window = stands.window;
-  last = last c common settings asdus stands;
-  run = run c common settings asdus stands;
+  same_mimic = stands.same_mimic;
+  last = last g c common settings asdus stands;
+  before = kept g c common settings asdus stands ∙ ap (kept_now settings.mimic) (sym (newer g c common settings asdus stands));
+  items = items g c common settings asdus stands ∙ ap (window common.n settings.mimic) (sym (newer g c common settings asdus stands));
 }
+
+pub returns-clause-small : goal.returns-clause-small
+returns-clause-small g c =
+    let state = c.note.ensures.state in
+    let few : length c.note.new.ring.items ≤ 96 = omega (arith, state.few, cycle_few c.args.self.now.slider.n (subst (λ n. is_cycle n ≡ true) (sym c.args.self.now.sliding.cycle) c.args.self.now.cycle)) in
+    let re = totals_below c.note.new.slider.re (real_weight c.args.self.now.slider.n) _ c.note.new.ring.items (real_weight_bound c.args.self.now.slider.n) few state.samples c.phasors.ensures.lanes_re state.re in
+    let im = totals_below c.note.new.slider.im (imaginary_weight c.args.self.now.slider.n) _ c.note.new.ring.items (imaginary_weight_bound c.args.self.now.slider.n) few state.samples c.phasors.ensures.lanes_im state.im in
+    phasors_small c.phasors.result c.note.new.slider.re c.note.new.slider.im c.phasors.ensures.some c.phasors.ensures.lanes_re c.phasors.ensures.lanes_im re im

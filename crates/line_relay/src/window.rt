@@ -1,0 +1,82 @@
+//! The window of good samples whose numbers follow one another, and its sums.
+ghost use Rattle.std.specs.Prelude.{ℕ, ◌≡◌, ◌+◌, ◌≤◌, ◌^◌, ◌⊎◌, ◌==◌, ◌++◌, ◌∷◌, if◌then◌else◌, []};
+ghost use Rattle.circular_buffer.specs.Buffer.{keep_last};
+ghost use Rattle.lanes.specs.Lanes.{AllBelow};
+ghost use Rattle.cycle_phasor.specs.Sliding.{values_left};
+ghost use Rattle.cycle_phasor.specs.Window.{IsSliding};
+ghost use Rattle.line_relay.specs.Windows.{window_with};
+
+use cycle_phasor::Slider;
+use relay_num::Steps;
+use sample_ring::History;
+use std::sync::ledger::Ledger;
+
+/// Takes the values at this number into the window, whose run would go on with the number `next`. A
+/// number that doesn't follow begins a new run, and no values end it.
+pub fn note<L: Ledger>(
+    ring: &mut History<[i64; 8]>,
+    slider: &mut Slider,
+    next: u64,
+    number: u64,
+    values: Option<[i64; 8]>,
+    steps: &mut Steps<L>,
+)
+    requires n { (slider.old.n ≡ 80) ⊎ (slider.old.n ≡ 96) }
+    requires state { IsSliding slider.old.n next ring.old slider.old }
+    requires small { AllBelow (values_left values) (2 ^ 28) }
+    ensures state { IsSliding slider.old.n (number + 1) ring.new slider.new }
+    ensures items { ring.new.items ≡ window_with slider.old.n (number == next) values ring.old.items }
+    ensures cost { steps.new ≤ steps.old + 1 }
+{
+    let Some(values) = values else {
+        forget(ring, slider);
+        return;
+    };
+    go_on(ring, slider, next, number);
+    slide(ring, slider, number, &values, steps);
+}
+
+/// Takes the values of the number that follows the window's.
+fn slide<L: Ledger>(
+    ring: &mut History<[i64; 8]>,
+    slider: &mut Slider,
+    number: u64,
+    values: &[i64; 8],
+    steps: &mut Steps<L>,
+)
+    requires n { (slider.old.n ≡ 80) ⊎ (slider.old.n ≡ 96) }
+    requires state { IsSliding slider.old.n number ring.old slider.old }
+    requires values { AllBelow values.now (2 ^ 28) }
+    ensures state { IsSliding slider.old.n (number + 1) ring.new slider.new }
+    ensures items { ring.new.items ≡ keep_last slider.old.n (ring.old.items ++ values.now ∷ []) }
+    ensures cost { steps.new ≡ steps.old + 1 }
+{
+    let place = number % u64::from(slider.n);
+    let old = ring.push(*values, steps);
+    slider.slide(place as u32, values, old.as_ref());
+}
+
+/// Empties the window where this number doesn't follow.
+fn go_on(ring: &mut History<[i64; 8]>, slider: &mut Slider, next: u64, number: u64)
+    requires n { (slider.old.n ≡ 80) ⊎ (slider.old.n ≡ 96) }
+    requires state { IsSliding slider.old.n next ring.old slider.old }
+    ensures n { slider.new.n ≡ slider.old.n }
+    ensures state { IsSliding slider.new.n number ring.new slider.new }
+    ensures items { ring.new.items ≡ (if number == next then ring.old.items else []) }
+{
+    if number != next {
+        forget(ring, slider);
+    }
+}
+
+/// Empties the window.
+fn forget(ring: &mut History<[i64; 8]>, slider: &mut Slider)
+    requires n { (slider.old.n ≡ 80) ⊎ (slider.old.n ≡ 96) }
+    requires capacity { ring.old.capacity ≡ slider.old.n }
+    ensures n { slider.new.n ≡ slider.old.n }
+    ensures state { (next : ℕ) → IsSliding slider.new.n next ring.new slider.new }
+    ensures items { ring.new.items ≡ [] }
+{
+    ring.clear();
+    slider.clear();
+}
