@@ -104,7 +104,6 @@ some_cycle common is = elim is.cycle [
   | inr (inr third) ↦ omega (arith, third.2)
 ]
 
-
 pub cycle_some : (n : ℕ) → is_cycle n ≡ true → 0 < n
 cycle_some zero e = absurd (false≢true e)
 cycle_some (suc n) e = omega arith

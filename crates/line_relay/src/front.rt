@@ -143,7 +143,14 @@ impl Front {
         let sample = sample_of(&channels, self.quality_mask, a.synch, self.synch_min);
         let values = filtered(self.mimic, self.before, number == next, &sample);
         self.before = kept(self.mimic, &sample);
-        note(&mut self.ring, &mut self.slider, next, number, values, steps);
+        note(
+            &mut self.ring,
+            &mut self.slider,
+            next,
+            number,
+            values,
+            steps,
+        );
         Step {
             outcome: Outcome::Counter(taken),
             sample: Some(sample),
@@ -158,5 +165,44 @@ impl Front {
             result ≡ taken_number common settings asdus }
     {
         self.numberer.last()
+    }
+}
+
+#[cfg(test)]
+mod tests {
+    use super::*;
+    use crate::tests::{common, settings};
+    use std::test::Fail;
+
+    // A second window, or any other memory of samples, would be a further field, and then this doesn't compile.
+    #[test]
+    fn fields_are_all(rt: HostRuntime) -> Result<(), Fail> {
+        let front = Front::new(rt.alloc(), &common(), &settings(None))?;
+        let Front {
+            numberer,
+            n,
+            conf_rev,
+            quality_mask,
+            synch_min,
+            mimic,
+            before,
+            ring,
+            slider,
+        } = &front;
+        let _: &Numberer = numberer;
+        let _: &u32 = n;
+        let _: &u32 = conf_rev;
+        let _: &u32 = quality_mask;
+        let _: &u8 = synch_min;
+        let _: &Option<Mimic> = mimic;
+        let _: &Option<[i64; 8]> = before;
+        let _: &History<[i64; 8]> = ring;
+        let Slider { n, count, re, im } = slider;
+        let _: &u32 = n;
+        let _: &u32 = count;
+        let _: &[i64; 8] = re;
+        let _: &[i64; 8] = im;
+        assert_eq!(rt; *count, 0);
+        Ok(())
     }
 }

@@ -172,3 +172,40 @@ fn copy_of(name: &[u8]) -> ArrayVec<u8, 16>
     let _ = copy.try_extend_from_slice(name);
     copy
 }
+
+#[cfg(test)]
+mod tests {
+    use super::*;
+    use crate::tests::{common, settings};
+    use std::test::Fail;
+
+    // Of a line's fields the front alone keeps samples.
+    #[test]
+    fn fields_are_all(rt: HostRuntime) -> Result<(), Fail> {
+        let line = Line::new(rt.alloc(), &common(), &settings(None))?;
+        let Line {
+            common,
+            name,
+            k0,
+            zone,
+            front,
+            shown,
+        } = &line;
+        let _: &Common = common;
+        let _: &ArrayVec<u8, 16> = name;
+        let _: &Cx = k0;
+        let _: &Option<MhoZone> = zone;
+        let _: &Front = front;
+        let Facts {
+            ready,
+            inside,
+            operates,
+            trip,
+        } = shown;
+        assert_eq!(rt;
+            (*ready, *inside, *operates, *trip),
+            (false, false, false, false)
+        );
+        Ok(())
+    }
+}

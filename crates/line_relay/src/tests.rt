@@ -1,6 +1,8 @@
 //! Rows of sample sets with the events that they bring.
 ghost use Rattle.std.specs.Prelude.{◌≡◌, ◌<◌, ◌≤◌, length, IfSome};
 ghost use Rattle.relay_settings.specs.Ranges.{IsCommon, IsGoose, IsLine, IsMimic};
+ghost use Rattle.relay_settings.specs.Settings.{plain_line};
+ghost use Rattle.line_relay.specs.Zones.{IsBuilt};
 
 use super::*;
 use arrayvec::ArrayVec;
@@ -26,7 +28,7 @@ fn text<const MOST: usize>(bytes: &[u8]) -> ArrayVec<u8, MOST>
     copy
 }
 
-fn common() -> Common
+pub(crate) fn common() -> Common
     ensures ranges { IsCommon result }
     ensures rated { 1 < result.rate }
 {
@@ -39,9 +41,10 @@ fn common() -> Common
     }
 }
 
-fn settings(mimic: Option<Mimic>) -> LineSettings
+pub(crate) fn settings(mimic: Option<Mimic>) -> LineSettings
     requires { IfSome mimic IsMimic }
-    ensures { IsLine result }
+    ensures range { IsLine result }
+    ensures built { IsBuilt (plain_line result) }
 {
     LineSettings {
         name: text(b"L1"),

@@ -2,4 +2,7 @@
 mod captures;
 mod failing;
 mod inputs;
+mod plain;
 mod settings;
+mod signals;
+mod zones;

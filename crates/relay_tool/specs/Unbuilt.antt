@@ -1,32 +1,55 @@
 -- What accepted settings ask for and `replay` doesn't do yet, in the order in which the settings are read.
-use Rattle.std.specs.Prelude.{ℕ, List, [], ◌∷◌, Option, Some, None, is_some, codes, if◌then◌else◌, Ok, Err}
+use Rattle.std.specs.Prelude.{ℕ, nat_lt, Bool, true, false, List, [], ◌∷◌, Option, Some, None, is_some, codes, if◌then◌else◌, Ok, Err}
 use Rattle.relay_settings.specs.Settings.{PlainLine, PlainSettings}
 use Rattle.relay_settings.specs.declared.types.ZoneSettings.{ZoneSettings}
+use Rattle.relay_settings.specs.declared.types.Shape.{Shape}
+use Rattle.relay_settings.specs.declared.types.Shape.TheVariants.{Mho, Quad}
+use Rattle.relay_settings.specs.declared.types.Dir.{Dir}
+use Rattle.relay_settings.specs.declared.types.Dir.TheVariants.{Forward, Reverse, Unasked}
 use Rattle.settings_read.specs.Walk.{Answer, refused}
 use Rattle.settings_read.specs.Accepted.{accepted}
 use Rattle.relay_tool.specs.declared.unbuilt.Unbuilt.{Unbuilt}
-use Rattle.relay_tool.specs.declared.unbuilt.Unbuilt.TheVariants.{Lines, Mimic, Swing, Fuse, Load, Zones}
+use Rattle.relay_tool.specs.declared.unbuilt.Unbuilt.TheVariants.{Lines, Swing, Fuse, Load, Zones, Quad as QuadZone, Reverse as ReverseZone, Delay}
 
 -- the path of the key
 abbrev pub key_text : Unbuilt → List ℕ
 key_text Lines = codes "line"
-key_text Mimic = codes "line.1.mimic"
 key_text Swing = codes "line.1.swing"
 key_text Fuse = codes "line.1.fuse"
 key_text Load = codes "line.1.load"
 key_text Zones = codes "line.1.zone"
+key_text QuadZone = codes "line.1.zone.1.shape"
+key_text ReverseZone = codes "line.1.zone.1.dir"
+key_text Delay = codes "line.1.zone.1.delay_ms"
 
-abbrev pub has_some : List ZoneSettings → Option Unbuilt
-has_some [] = None
-has_some (zone ∷ zones) = Some Zones
+abbrev pub is_quad : Shape → Bool
+is_quad (Mho reach) = false
+is_quad (Quad q) = true
+
+abbrev pub is_reverse : Dir → Bool
+is_reverse Forward = false
+is_reverse Reverse = true
+is_reverse Unasked = false
+
+abbrev pub unbuilt_in_zone : ZoneSettings → Option Unbuilt
+unbuilt_in_zone zone =
+    if is_quad zone.shape then Some QuadZone
+    else if is_reverse zone.dir then Some ReverseZone
+    else if nat_lt 0 zone.delay_ms then Some Delay
+    else None
+
+-- more than one, or the one that asks for more than a mho
+abbrev pub unbuilt_in_zones : List ZoneSettings → Option Unbuilt
+unbuilt_in_zones [] = None
+unbuilt_in_zones (zone ∷ []) = unbuilt_in_zone zone
+unbuilt_in_zones (zone ∷ more ∷ zones) = Some Zones
 
 abbrev pub unbuilt_in : PlainLine → Option Unbuilt
 unbuilt_in line =
-    if is_some line.mimic then Some Mimic
-    else if is_some line.swing then Some Swing
+    if is_some line.swing then Some Swing
     else if is_some line.fuse then Some Fuse
     else if is_some line.load then Some Load
-    else has_some line.zones
+    else unbuilt_in_zones line.zones
 
 -- the first of them, if any
 abbrev pub unbuilt_of : List PlainLine → Option Unbuilt

@@ -1,23 +1,29 @@
 //! What accepted settings may ask for and `replay` doesn't do yet. Each row goes with the part that
 //! builds it.
 ghost use Rattle.std.specs.Prelude.{◌≡◌, ◌∷◌, [], IfOk, IfErr, Some, None};
-ghost use Rattle.relay_tool.specs.Unbuilt.{unbuilt_of, unbuilt_in, key_text as key_text_of};
+ghost use Rattle.relay_tool.specs.Unbuilt.{unbuilt_of, unbuilt_in, unbuilt_in_zone, unbuilt_in_zones, key_text as key_text_of};
 ghost use Rattle.relay_settings.specs.Settings.{plain_line, plain_lines};
 ghost use Rattle.relay_settings.specs.Ranges.{InRange, IsLine};
+ghost use Rattle.line_relay.specs.Zones.{IsBuilt};
 
-use relay_settings::{LineSettings, Settings};
+use relay_settings::{Dir, LineSettings, Settings, Shape, ZoneSettings};
 
 /// A key that `replay` can't follow yet.
 #[derive(Clone, Copy, Debug, PartialEq, Eq)]
 pub enum Unbuilt {
     /// More than one line.
     Lines,
-    Mimic,
     Swing,
     Fuse,
     Load,
-    /// Any zone.
+    /// More than one zone.
     Zones,
+    /// A zone with shape `quad`.
+    Quad,
+    /// A zone with dir `reverse`.
+    Reverse,
+    /// A zone with `delay_ms` above 0.
+    Delay,
 }
 
 /// The path of the key.
@@ -26,11 +32,38 @@ pub fn key_text(unbuilt: Unbuilt) -> &'static [u8]
 {
     match unbuilt {
         Unbuilt::Lines => b"line",
-        Unbuilt::Mimic => b"line.1.mimic",
         Unbuilt::Swing => b"line.1.swing",
         Unbuilt::Fuse => b"line.1.fuse",
         Unbuilt::Load => b"line.1.load",
         Unbuilt::Zones => b"line.1.zone",
+        Unbuilt::Quad => b"line.1.zone.1.shape",
+        Unbuilt::Reverse => b"line.1.zone.1.dir",
+        Unbuilt::Delay => b"line.1.zone.1.delay_ms",
+    }
+}
+
+/// The first key of this zone, the line's one, that isn't built yet.
+fn unbuilt_in_zone(zone: &ZoneSettings) -> Option<Unbuilt>
+    ensures { result ≡ unbuilt_in_zone zone.now }
+{
+    if matches!(zone.shape, Shape::Quad(_)) {
+        Some(Unbuilt::Quad)
+    } else if matches!(zone.dir, Dir::Reverse) {
+        Some(Unbuilt::Reverse)
+    } else if zone.delay_ms > 0 {
+        Some(Unbuilt::Delay)
+    } else {
+        None
+    }
+}
+
+fn unbuilt_in_zones(zones: &[ZoneSettings]) -> Option<Unbuilt>
+    ensures { result ≡ unbuilt_in_zones zones.now }
+{
+    match zones {
+        [] => None,
+        [zone] => unbuilt_in_zone(zone),
+        _ => Some(Unbuilt::Zones),
     }
 }
 
@@ -38,18 +71,14 @@ pub fn key_text(unbuilt: Unbuilt) -> &'static [u8]
 fn unbuilt_in_line(line: &LineSettings) -> Option<Unbuilt>
     ensures { result ≡ unbuilt_in (plain_line line.now) }
 {
-    if line.mimic.is_some() {
-        Some(Unbuilt::Mimic)
-    } else if line.swing.is_some() {
+    if line.swing.is_some() {
         Some(Unbuilt::Swing)
     } else if line.fuse.is_some() {
         Some(Unbuilt::Fuse)
     } else if line.load.is_some() {
         Some(Unbuilt::Load)
-    } else if line.zones.is_empty() {
-        None
     } else {
-        Some(Unbuilt::Zones)
+        unbuilt_in_zones(line.zones.as_slice())
     }
 }
 
@@ -58,6 +87,7 @@ pub fn built_line(settings: &Settings) -> Result<&LineSettings, Unbuilt>
     requires { InRange settings.now }
     ensures built { IfOk result (λ line. (unbuilt_of (plain_lines settings.now.lines.items) ≡ None) × (settings.now.lines.items ≡ line.now ∷ [])) }
     ensures range { IfOk result (λ line. IsLine line.now) }
+    ensures follows { IfOk result (λ line. IsBuilt (plain_line line.now)) }
     ensures unbuilt { IfErr result (λ key. unbuilt_of (plain_lines settings.now.lines.items) ≡ Some key) }
 {
     match settings.lines.as_slice() {

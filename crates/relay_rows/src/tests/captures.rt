@@ -165,14 +165,14 @@ frame 7 malformed asdu
 
 /// What a run is to leave: its status, its note, the GOOSE file and the log.
 #[derive(Clone, Copy)]
-struct Outcome {
-    status: u8,
-    note: &'static str,
-    goose: &'static [u8],
-    log: &'static str,
+pub struct Outcome {
+    pub status: u8,
+    pub note: &'static str,
+    pub goose: &'static [u8],
+    pub log: &'static str,
 }
 
-const ONE_SAMPLE: Outcome = Outcome {
+pub const ONE_SAMPLE: Outcome = Outcome {
     status: 0,
     note: "",
     goose: &GOOSE,
@@ -180,7 +180,7 @@ const ONE_SAMPLE: Outcome = Outcome {
 };
 
 /// Runs the relay on these inputs, with reads and writes whole and in pieces.
-fn run_row(
+pub fn run_row(
     rt: &impl Abort,
     alloc: Global,
     settings: &[u8],

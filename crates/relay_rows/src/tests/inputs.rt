@@ -138,6 +138,21 @@ fn put_record(
     capture.extend_from_slice(bytes)
 }
 
+/// Adds the record of a frame with this one sample set to a capture with the lowest byte first.
+pub fn put_frame(
+    alloc: Global,
+    capture: &mut Vec<u8>,
+    counter: u16,
+    data: &[u8],
+) -> Result<(), AllocError> {
+    let mut frame = Vec::new(alloc);
+    frame.extend_from_slice(&SAMPLE_FRAME[..39])?;
+    frame.extend_from_slice(&counter.to_be_bytes())?;
+    frame.extend_from_slice(&SAMPLE_FRAME[41..52])?;
+    frame.extend_from_slice(data)?;
+    put_record(capture, false, &frame, 116)
+}
+
 /// A capture of these records, its numbers in the byte order of its header.
 pub fn capture_of(alloc: Global, header: &[u8], parts: &[Part]) -> Result<Vec<u8>, AllocError> {
     let mut capture = Vec::new(alloc);

@@ -24,10 +24,10 @@ const CHECK: [&'static str; 2] = ["check", "s.toml"];
 
 const REPLAY: [&'static str; 5] = ["replay", "s.toml", "c.pcap", "g", "l"];
 
-const GO_ID: &str = "go_id = \"G1\"\nconf_rev = 1\n";
+pub const GO_ID: &str = "go_id = \"G1\"\nconf_rev = 1\n";
 
 /// The end of the settings with a mho zone.
-const ZONE: &str = "go_id = \"G1\"
+pub const ZONE: &str = "go_id = \"G1\"
 conf_rev = 1
 
 [[line.zone]]
@@ -41,9 +41,79 @@ swing_block = false
 load_block = false
 ";
 
+/// The same with a delay, the other way, of the other shape, and with a second zone.
+const LATE: &str = "go_id = \"G1\"
+conf_rev = 1
+
+[[line.zone]]
+shape = \"mho\"
+dir = \"forward\"
+reach_r = 0
+reach_x = 12500
+delay_ms = 400
+trip = true
+swing_block = false
+load_block = false
+";
+
+const REVERSE: &str = "go_id = \"G1\"
+conf_rev = 1
+
+[[line.zone]]
+shape = \"mho\"
+dir = \"reverse\"
+reach_r = 0
+reach_x = 12500
+delay_ms = 0
+trip = true
+swing_block = false
+load_block = false
+";
+
+const QUAD: &str = "go_id = \"G1\"
+conf_rev = 1
+
+[[line.zone]]
+shape = \"quad\"
+dir = \"forward\"
+reach_r = 9000
+reach_x = 12500
+tilt = 0
+slope = 0
+back_x = 0
+delay_ms = 0
+trip = true
+swing_block = false
+load_block = false
+";
+
+const TWO_ZONES: &str = "go_id = \"G1\"
+conf_rev = 1
+
+[[line.zone]]
+shape = \"mho\"
+dir = \"forward\"
+reach_r = 0
+reach_x = 12500
+delay_ms = 0
+trip = true
+swing_block = false
+load_block = false
+
+[[line.zone]]
+shape = \"mho\"
+dir = \"forward\"
+reach_r = 0
+reach_x = 20000
+delay_ms = 400
+trip = true
+swing_block = false
+load_block = false
+";
+
 const USAGE: &str = "usage: relay replay SETTINGS CAPTURE GOOSE LOG or check SETTINGS\n";
 
-static ROWS: [Row; 14] = [
+static ROWS: [Row; 18] = [
     (&CHECK, "", "", 0, "ok 1 lines 0 zones\n", ""),
     (&CHECK, GO_ID, ZONE, 0, "ok 1 lines 1 zones\n", ""),
     (
@@ -97,10 +167,35 @@ i2_share = 200
     ),
     (&CHECK, SETTINGS, "", 2, "", "settings refused 4 version\n"),
     (&REPLAY, SETTINGS, "", 2, "", "settings refused 4 version\n"),
+    (&CHECK, GO_ID, LATE, 0, "ok 1 lines 1 zones\n", ""),
     (
         &REPLAY,
         GO_ID,
-        ZONE,
+        LATE,
+        2,
+        "",
+        "settings refused 13 line.1.zone.1.delay_ms\n",
+    ),
+    (
+        &REPLAY,
+        GO_ID,
+        REVERSE,
+        2,
+        "",
+        "settings refused 13 line.1.zone.1.dir\n",
+    ),
+    (
+        &REPLAY,
+        GO_ID,
+        QUAD,
+        2,
+        "",
+        "settings refused 13 line.1.zone.1.shape\n",
+    ),
+    (
+        &REPLAY,
+        GO_ID,
+        TWO_ZONES,
         2,
         "",
         "settings refused 13 line.1.zone\n",
@@ -108,14 +203,14 @@ i2_share = 200
     (
         &REPLAY,
         "[line.goose]",
-        "[line.mimic]
-a = 1024
-b = 0
+        "[line.load]
+r = 20000
+slope = 500
 
 [line.goose]",
         2,
         "",
-        "settings refused 13 line.1.mimic\n",
+        "settings refused 13 line.1.load\n",
     ),
     (&[], "", "", 1, "", USAGE),
     (&["check"], "", "", 1, "", USAGE),

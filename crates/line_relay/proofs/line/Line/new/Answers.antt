@@ -11,8 +11,7 @@ use Rattle.line_relay.proofs.line.Line.new.Goals as goal
 pub returns : goal.returns
 returns c =
     let re : FitsSigned w64 c.args.s.now.k0_re = search rules in
-    let im : FitsSigned w64 c.args.s.now.k0_im = search rules in
-    (
+    let im : FitsSigned w64 c.args.s.now.k0_im = search rules in (
       record {
         same_common = refl;
         name = c.copy_of.ensures ∙ c.as_slice.ensures.value;

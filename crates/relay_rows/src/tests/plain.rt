@@ -1,0 +1,177 @@
+//! A plain program that sums the window anew, beside the front that slides.
+ghost use Rattle.std.specs.Prelude.{◌≡◌, ◌<◌};
+
+use super::inputs::{SETTINGS, settings_with};
+use super::signals::{Signal, Span, data_of};
+use line_relay::{Front, Step};
+use relay_num::{Cx, Steps, open_steps, wave};
+use relay_settings::Mimic;
+use settings_read::read_settings;
+use std::alloc::Global;
+use std::marker::Brand;
+use std::process::Abort;
+use std::sync::ledger::{Blank, Ledger};
+use std::test::Fail;
+use sv_frame::Asdu;
+
+/// A taken sample: its number, its values, and whether it is good.
+type Taken = (u64, [i64; 8], bool);
+
+/// The filtered value of a channel at a place of the samples.
+fn filtered(samples: &[Taken], mimic: Option<Mimic>, place: usize, channel: usize) -> i64 {
+    let value = |place: usize| match samples.get(place) {
+        Some((_, values, _)) => values.get(channel).copied().unwrap_or(0),
+        None => 0,
+    };
+    match mimic {
+        Some(mimic) => {
+            let now = value(place).wrapping_mul(mimic.a);
+            let before = value(place.wrapping_sub(1)).wrapping_mul(mimic.b);
+            (now.wrapping_sub(before) >> 10).clamp(-268_435_455, 268_435_455)
+        }
+        None => value(place),
+    }
+}
+
+/// The phasor of a channel over the last 96 of the samples.
+fn phasor(samples: &[Taken], mimic: Option<Mimic>, channel: usize) -> Cx {
+    let mut re: i64 = 0;
+    let mut im: i64 = 0;
+    for place in samples.len().saturating_sub(96)..samples.len() {
+        let (number, _, _) = samples[place];
+        let (cosine, sine) = wave(96, (number % 96) as u32);
+        let value = filtered(samples, mimic, place, channel);
+        re = re.wrapping_add(value.wrapping_mul(cosine));
+        im = im.wrapping_sub(value.wrapping_mul(sine));
+    }
+    Cx {
+        re: re >> 19,
+        im: im >> 19,
+    }
+}
+
+/// Whether the last samples, as many as the filter asks for, are good and none is missing among them.
+fn is_ready(samples: &[Taken], mimic: Option<Mimic>) -> bool {
+    let needed: usize = if mimic.is_some() { 97 } else { 96 };
+    let Some(first) = samples.len().checked_sub(needed) else {
+        return false;
+    };
+    let mut next = None;
+    for (number, _, good) in &samples[first..] {
+        if !*good || next.is_some_and(|next| next != *number) {
+            return false;
+        }
+        next = Some(number.wrapping_add(1));
+    }
+    true
+}
+
+/// The phasors at the newest sample, summed anew.
+fn phasors(samples: &[Taken], mimic: Option<Mimic>) -> Option<[Cx; 8]> {
+    if !is_ready(samples, mimic) {
+        return None;
+    }
+    let mut all = [Cx { re: 0, im: 0 }; 8];
+    for channel in 0..8 {
+        all[channel] = phasor(samples, mimic, channel);
+    }
+    Some(all)
+}
+
+/// The front of the line of these settings.
+fn front_of(alloc: Global, text: &str) -> Result<Option<Front>, Fail> {
+    let Ok(settings) = read_settings(alloc, text.as_bytes()) else {
+        return Ok(None);
+    };
+    match settings.lines.as_slice() {
+        [line] => Ok(Some(Front::new(alloc, &settings.common, line)?)),
+        _ => Ok(None),
+    }
+}
+
+/// Hands the front the sample sets of these spans, and sums each window anew beside it. It answers at how
+/// many samples there were phasors.
+fn compare<L: Ledger>(
+    rt: &impl Abort,
+    alloc: Global,
+    text: &str,
+    mimic: Option<Mimic>,
+    spans: &[Span],
+    blank: Blank,
+) -> Result<u32, Fail>
+    requires name { blank.name ≡ L.name }
+    requires parts { blank.parts ≡ L.parts }
+    requires shares { 0 < blank.parts }
+{
+    let Some(mut front) = front_of(alloc, text)? else {
+        return Ok(0);
+    };
+    let mut steps = open_steps::<L>(blank);
+    let mut samples = Vec::new(alloc);
+    let mut ready: u32 = 0;
+    for (from, to, signal) in spans {
+        for counter in *from..*to {
+            let data = data_of(alloc, *signal, counter)?;
+            let step = match hear(&mut front, counter, &data, &mut steps) {
+                Some(step) => step,
+                None => return Ok(0),
+            };
+            let mut want = None;
+            if let (Some(sample), Some(number)) = (step.sample, front.last()) {
+                samples.push((number, sample.values, sample.good))?;
+                want = phasors(&samples, mimic);
+            }
+            assert_eq!(rt; step.phasors, want, "counter {counter}");
+            if want.is_some() {
+                ready = ready.wrapping_add(1);
+            }
+        }
+    }
+    Ok(ready)
+}
+
+fn hear<L: Ledger>(
+    front: &mut Front,
+    counter: u16,
+    data: &[u8],
+    steps: &mut Steps<L>,
+) -> Option<Step> {
+    if front.last().unwrap_or(0) >= 1 << 60 || data.len() > 64 {
+        return None;
+    }
+    let a = Asdu {
+        sv_id: b"MU01",
+        counter,
+        conf_rev: 1,
+        synch: 2,
+        samples: data,
+    };
+    Some(front.take(&a, steps))
+}
+
+/// Over the end of a second, with a bad sample, a repeated one and a gap.
+const SPANS: [Span; 7] = [
+    (4700, 4800, Signal::Noise),
+    (0, 150, Signal::Noise),
+    (150, 151, Signal::BadQuality),
+    (151, 280, Signal::Fault),
+    (279, 280, Signal::Fault),
+    (280, 300, Signal::Healthy),
+    (303, 500, Signal::Noise),
+];
+
+#[test]
+fn sums_anew_agree_with_the_front(rt: HostRuntime) -> Result<(), Fail> {
+    let alloc = rt.alloc();
+    let plain = compare::<Brand>(&rt, alloc, SETTINGS, None, &SPANS, Blank::new(1))?;
+    assert_eq!(rt; plain, 155 + 54 + 102);
+    let text = settings_with(
+        alloc,
+        "[line.goose]",
+        "[line.mimic]\na = 2048\nb = 1024\n\n[line.goose]",
+    )?;
+    let mimic = Some(Mimic { a: 2048, b: 1024 });
+    let filtered = compare::<Brand>(&rt, alloc, &text, mimic, &SPANS, Blank::new(1))?;
+    assert_eq!(rt; filtered, 154 + 53 + 101);
+    Ok(())
+}
