@@ -2,6 +2,7 @@
 """Frames of sampled values and pcap captures, for examples: Python's standard library alone.
 
     capture.py first_path FILE      writes the capture of examples/first_path
+    capture.py ground_fault FILE    writes the capture of examples/ground_fault
 
 A reader who wants another capture writes another function beside `first_path`: a list of frames, each made by
 `frame([sample_set(..), ..])`, and `capture(frames)` around them.
@@ -31,6 +32,13 @@ def cosine(k):
 def healthy(j):
     """No load, three balanced voltages."""
     return [0, 0, 0, 0, 500 * cosine(j), 500 * cosine(j - 32), 500 * cosine(j + 32), 0]
+
+
+def fault(j):
+    """Phase A to ground: UA falls to a half, and IA lags it by a quarter of a cycle. UA / IA is 10 ohms, so with a
+    compensated current of 1.6 IA the loop sees 6.25 ohms, half of the reach."""
+    ia = 250 * sine(j)
+    return [ia, 0, 0, ia, 250 * cosine(j), 500 * cosine(j - 32), 500 * cosine(j + 32), 0]
 
 
 def field(tag, contents):
@@ -84,8 +92,13 @@ def first_path():
     return frames
 
 
+def ground_fault():
+    """One second: healthy, a fault from 1464 to 3863, healthy again."""
+    return [frame([sample_set(c, fault(c) if 1464 <= c < 3864 else healthy(c))]) for c in range(4800)]
+
+
 if __name__ == "__main__":
-    examples = {"first_path": first_path}
+    examples = {"first_path": first_path, "ground_fault": ground_fault}
     if len(sys.argv) != 3 or sys.argv[1] not in examples:
         sys.exit(__doc__)
     with open(sys.argv[2], "wb") as file:

@@ -1,10 +1,10 @@
 -- The window of the last run of good samples, and the sums over a full one.
-use Rattle.std.proofs.Common.{◌≡◌, ℕ, zero, suc, ◌+◌, ◌-◌, ◌<◌, ◌≤◌, ◌^◌, ◌↔◌, min, Bool, true, false, cond, leb, nat_le, if◌then◌else◌, refl, sym, ap, ap₂, ◌∙◌, arith, List, [], ◌∷◌, ◌++◌, length, get_or, map, take, drop, reverse, ℤ, pos, negsuc, unsigned_abs, All, ◌+ℤ◌, ◌*ℤ◌, inl, inr, Option, Some, None, IsNone, IfSome, ◌==◌}
+use Rattle.std.proofs.Common.{◌≡◌, ℕ, zero, suc, ◌+◌, ◌-◌, ◌<◌, ◌≤◌, ◌^◌, ◌↔◌, min, Bool, true, false, cond, leb, refl, sym, ap, ap₂, ◌∙◌, arith, List, [], ◌∷◌, ◌++◌, length, get_or, map, take, drop, reverse, ℤ, pos, negsuc, unsigned_abs, All, ◌+ℤ◌, ◌*ℤ◌, inl, inr, Option, Some, None, IsNone, IfSome, ◌==◌}
 use Rattle.std.specs.Option.{ForSome}
-use Rattle.std.proofs.lemmas.List.{take-append-drop, reverse-append, length-reverse, length-append, length-drop, length-take, length-map, drop-drop, take-take, drop-append-le, map-append, get_or-map, drop_all}
+use Rattle.std.proofs.lemmas.List.{take-append-drop, reverse-append, length-reverse, length-append, length-drop, length-take, length-map, drop-drop, take-take, drop-append-le, map-append}
 use Rattle.std.proofs.Math.Seq.{drop-append_seam, drop-nil}
 use Rattle.std.proofs.lemmas.Simd.{get_or-zip2, length-zip2}
-use Rattle.std.proofs.lemmas.Bool.{false≢true, cases_Bool, and_parts, le-leb, lt-leb}
+use Rattle.std.proofs.lemmas.Bool.{false≢true, cases_Bool, and_parts, lt-leb}
 use Rattle.std.proofs.lemmas.Bool.Decides.{nat_tests}
 use Rattle.sample_windows.specs.Numbered.{newest_number, up_to, Rises, held_for, run_of}
 use Rattle.sample_windows.proofs.NumberedLemmas.{held_for-run, up_to-in_run}
@@ -24,8 +24,8 @@ use Rattle.sample_windows.specs.Windows.{at_each}
 use Rattle.sample_windows.proofs.WindowLemmas.{length-at_each}
 use Rattle.relay_settings.specs.declared.types.Mimic.{Mimic}
 use Rattle.line_relay.specs.Samples.{newest_of, Numbered, number_of_sample, good_now, values_now, is_ready, needed}
-use Rattle.line_relay.specs.Phasors.{value_at, filtered_at, sum_below, cycle_sum, phasor_of, phasors_of, eight}
-use Rattle.line_relay.specs.Windows.{next_after, lanes_now, window, kept_values, kept_now, filter_after, lanes_after, window_with}
+use Rattle.line_relay.specs.Phasors.{filtered_at, sum_below, cycle_sum, phasor_of, phasors_of, eight}
+use Rattle.line_relay.specs.Windows.{next_after, lanes_now, window, kept_now, filter_after, lanes_after, window_with}
 
 module _ {X : Type 0} where
   reverse-cons : (x : X) (xs : List X) → reverse (x ∷ xs) ≡ reverse xs ++ x ∷ []

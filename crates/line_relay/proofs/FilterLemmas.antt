@@ -1,5 +1,5 @@
 -- Filtered values are small.
-use Rattle.std.proofs.Common.{◌*ℤ◌, ◌-ℤ◌, ◌≡◌, ℕ, ◌<◌, ◌≤◌, ◌^◌, ◌∙◌, arith, List, ℤ, pos, neg_ℤ, length, get_or, unsigned_abs}
+use Rattle.std.proofs.Common.{◌*ℤ◌, ◌-ℤ◌, ◌≡◌, ◌<◌, ◌≤◌, ◌^◌, arith, List, ℤ, pos, neg_ℤ, length, get_or, unsigned_abs}
 use Rattle.std.specs.Int.{int_min, int_max}
 use Rattle.std.proofs.lemmas.Int.{int_min_is, int_max_is}
 use Rattle.std.proofs.lemmas.Simd.{get_or-zip2, length-zip2}

@@ -1,5 +1,5 @@
 -- The samples of a front: their numbers rise, and each has eight values.
-use Rattle.std.proofs.Common.{◌≡◌, ℕ, zero, suc, ◌+◌, ◌<◌, ◌≤◌, ◌==◌, Bool, true, false, cond, refl, sym, ◌∙◌, arith, List, [], ◌∷◌, Option, Some, None, length, drop, replicate, ℤ, pos, ap, unwrap_or, inl, inr}
+use Rattle.std.proofs.Common.{◌≡◌, ℕ, zero, suc, ◌+◌, ◌<◌, ◌≤◌, ◌==◌, Bool, true, false, cond, refl, sym, ◌∙◌, arith, List, [], ◌∷◌, Option, Some, None, length, drop, replicate, pos, ap, unwrap_or, inl, inr}
 use Rattle.std.specs.Prelude.{is_some}
 use Rattle.relay_settings.specs.Ranges.{IsCommon}
 use Rattle.std.proofs.lemmas.Bool.{lt-leb, false≢true}

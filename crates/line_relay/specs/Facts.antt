@@ -1,5 +1,5 @@
 -- What holds at the newest taken sample, formed anew from all of them.
-use Rattle.std.specs.Prelude.{Bool, false, ◌&&◌, ◌||◌, is_some, List, Option, Some, None}
+use Rattle.std.specs.Prelude.{Bool, ◌&&◌, ◌||◌, is_some, List, Option, Some, None}
 use Rattle.std.specs.List.{list_any}
 use Rattle.sample_windows.specs.Windows.{at_each}
 use Rattle.relay_num.specs.declared.Cx.{Cx}

@@ -1,5 +1,5 @@
 -- The samples that a line has taken, the newest first, and where a whole cycle of good ones ends.
-use Rattle.std.specs.Prelude.{ℕ, ◌+◌, ◌==◌, Bool, false, List, [], ◌∷◌, Option, Some, None, ℤ}
+use Rattle.std.specs.Prelude.{ℕ, ◌+◌, Bool, false, List, [], ◌∷◌, Option, Some, None, ℤ}
 use Rattle.sample_windows.specs.Numbered.{held_for}
 use Rattle.relay_settings.specs.declared.types.Mimic.{Mimic}
 use Rattle.sample_stream.specs.declared.sample.Sample.{Sample}

@@ -1,11 +1,10 @@
 -- The mho zone of a line at loop AG, from the phasors of the eight channels.
-use Rattle.std.specs.Prelude.{◌≡◌, ◌≢◌, ℕ, Bool, false, ◌&&◌, List, [], ◌∷◌, Option, Some, None}
+use Rattle.std.specs.Prelude.{◌≡◌, ◌≢◌, ℕ, Bool, false, List, [], ◌∷◌, Option, Some, None}
 use Rattle.relay_num.specs.declared.Cx.{Cx}
 use Rattle.relay_settings.specs.Settings.{PlainLine}
 use Rattle.relay_settings.specs.declared.types.ZoneSettings.{ZoneSettings}
 use Rattle.relay_settings.specs.declared.types.Shape.{Shape}
 use Rattle.relay_settings.specs.declared.types.Shape.TheVariants.{Mho, Quad}
-use Rattle.relay_settings.specs.declared.types.Dir.{Dir}
 use Rattle.relay_settings.specs.declared.types.Dir.TheVariants.{Reverse}
 use Rattle.loop_impedance.specs.Loops.{item, voltages_of, currents_of, polarising_of}
 use Rattle.sequence_parts.specs.Sequences.{plus_sequence}

@@ -9,27 +9,44 @@ use relay_settings::Mimic;
 use settings_read::read_settings;
 use std::alloc::Global;
 use std::marker::Brand;
-use std::process::Abort;
 use std::sync::ledger::{Blank, Ledger};
 use std::test::Fail;
 use sv_frame::Asdu;
 
-/// A taken sample: its number, its values, and whether it is good.
-type Taken = (u64, [i64; 8], bool);
+/// A taken sample.
+#[derive(Clone, Copy, Drop)]
+struct Taken {
+    number: u64,
+    values: [i64; 8],
+    good: bool,
+}
+
+/// The value of a channel at a place of the samples; IN and UN aren't used.
+fn value(samples: &[Taken], place: usize, channel: usize) -> i64 {
+    let Some(taken) = samples.get(place) else {
+        return 0;
+    };
+    let [ia, ib, ic, _, ua, ub, uc, _] = taken.values;
+    match channel {
+        0 => ia,
+        1 => ib,
+        2 => ic,
+        4 => ua,
+        5 => ub,
+        6 => uc,
+        _ => 0,
+    }
+}
 
 /// The filtered value of a channel at a place of the samples.
 fn filtered(samples: &[Taken], mimic: Option<Mimic>, place: usize, channel: usize) -> i64 {
-    let value = |place: usize| match samples.get(place) {
-        Some((_, values, _)) => values.get(channel).copied().unwrap_or(0),
-        None => 0,
-    };
     match mimic {
         Some(mimic) => {
-            let now = value(place).wrapping_mul(mimic.a);
-            let before = value(place.wrapping_sub(1)).wrapping_mul(mimic.b);
+            let now = value(samples, place, channel).wrapping_mul(mimic.a);
+            let before = value(samples, place.wrapping_sub(1), channel).wrapping_mul(mimic.b);
             (now.wrapping_sub(before) >> 10).clamp(-268_435_455, 268_435_455)
         }
-        None => value(place),
+        None => value(samples, place, channel),
     }
 }
 
@@ -38,7 +55,7 @@ fn phasor(samples: &[Taken], mimic: Option<Mimic>, channel: usize) -> Cx {
     let mut re: i64 = 0;
     let mut im: i64 = 0;
     for place in samples.len().saturating_sub(96)..samples.len() {
-        let (number, _, _) = samples[place];
+        let number = samples[place].number;
         let (cosine, sine) = wave(96, (number % 96) as u32);
         let value = filtered(samples, mimic, place, channel);
         re = re.wrapping_add(value.wrapping_mul(cosine));
@@ -57,8 +74,9 @@ fn is_ready(samples: &[Taken], mimic: Option<Mimic>) -> bool {
         return false;
     };
     let mut next = None;
-    for (number, _, good) in &samples[first..] {
-        if !*good || next.is_some_and(|next| next != *number) {
+    for taken in &samples[first..] {
+        let number = taken.number;
+        if !taken.good || next.is_some_and(|next| next != number) {
             return false;
         }
         next = Some(number.wrapping_add(1));
@@ -79,8 +97,8 @@ fn phasors(samples: &[Taken], mimic: Option<Mimic>) -> Option<[Cx; 8]> {
 }
 
 /// The front of the line of these settings.
-fn front_of(alloc: Global, text: &str) -> Result<Option<Front>, Fail> {
-    let Ok(settings) = read_settings(alloc, text.as_bytes()) else {
+fn front_of(alloc: Global, text: &[u8]) -> Result<Option<Front>, Fail> {
+    let Ok(settings) = read_settings(alloc, text) else {
         return Ok(None);
     };
     match settings.lines.as_slice() {
@@ -89,45 +107,61 @@ fn front_of(alloc: Global, text: &str) -> Result<Option<Front>, Fail> {
     }
 }
 
-/// Hands the front the sample sets of these spans, and sums each window anew beside it. It answers at how
-/// many samples there were phasors.
+/// At how many samples there were phasors, and at how many the front and the plain program differed.
+#[derive(Clone, Copy, PartialEq, Eq, Debug, Drop)]
+struct Compared {
+    ready: u32,
+    differ: u32,
+}
+
+/// Hands the front the sample sets of these spans, and sums each window anew beside it.
 fn compare<L: Ledger>(
-    rt: &impl Abort,
     alloc: Global,
-    text: &str,
+    text: &[u8],
     mimic: Option<Mimic>,
     spans: &[Span],
     blank: Blank,
-) -> Result<u32, Fail>
+) -> Result<Compared, Fail>
     requires name { blank.name ≡ L.name }
     requires parts { blank.parts ≡ L.parts }
     requires shares { 0 < blank.parts }
 {
+    let mut compared = Compared {
+        ready: 0,
+        differ: 0,
+    };
     let Some(mut front) = front_of(alloc, text)? else {
-        return Ok(0);
+        return Ok(compared);
     };
     let mut steps = open_steps::<L>(blank);
     let mut samples = Vec::new(alloc);
-    let mut ready: u32 = 0;
     for (from, to, signal) in spans {
         for counter in *from..*to {
             let data = data_of(alloc, *signal, counter)?;
             let step = match hear(&mut front, counter, &data, &mut steps) {
                 Some(step) => step,
-                None => return Ok(0),
+                None => return Ok(compared),
             };
             let mut want = None;
             if let (Some(sample), Some(number)) = (step.sample, front.last()) {
-                samples.push((number, sample.values, sample.good))?;
+                let values = sample.values;
+                let good = sample.good;
+                samples.push(Taken {
+                    number,
+                    values,
+                    good,
+                })?;
                 want = phasors(&samples, mimic);
             }
-            assert_eq!(rt; step.phasors, want, "counter {counter}");
+            if step.phasors != want {
+                compared.differ = compared.differ.wrapping_add(1);
+            }
             if want.is_some() {
-                ready = ready.wrapping_add(1);
+                compared.ready = compared.ready.wrapping_add(1);
             }
         }
     }
-    Ok(ready)
+    Ok(compared)
 }
 
 fn hear<L: Ledger>(
@@ -163,15 +197,17 @@ const SPANS: [Span; 7] = [
 #[test]
 fn sums_anew_agree_with_the_front(rt: HostRuntime) -> Result<(), Fail> {
     let alloc = rt.alloc();
-    let plain = compare::<Brand>(&rt, alloc, SETTINGS, None, &SPANS, Blank::new(1))?;
-    assert_eq!(rt; plain, 155 + 54 + 102);
+    let plain = compare::<Brand>(alloc, SETTINGS.as_bytes(), None, &SPANS, Blank::new(1))?;
+    assert_eq!(rt; plain.ready, 155 + 54 + 102);
+    assert_eq!(rt; plain.differ, 0);
     let text = settings_with(
         alloc,
         "[line.goose]",
         "[line.mimic]\na = 2048\nb = 1024\n\n[line.goose]",
     )?;
     let mimic = Some(Mimic { a: 2048, b: 1024 });
-    let filtered = compare::<Brand>(&rt, alloc, &text, mimic, &SPANS, Blank::new(1))?;
-    assert_eq!(rt; filtered, 154 + 53 + 101);
+    let filtered = compare::<Brand>(alloc, text.as_bytes(), mimic, &SPANS, Blank::new(1))?;
+    assert_eq!(rt; filtered.ready, 154 + 53 + 101);
+    assert_eq!(rt; filtered.differ, 0);
     Ok(())
 }

@@ -1,4 +1,4 @@
-use Rattle.std.proofs.Common.{◌<◌, ◌≤◌, subst, None, ◌≡◌, ℕ, ◌∙◌, ◌+◌, ◌==◌, true, refl, sym, ap, ap₂, arith, length, List, [], ◌∷◌, Some, Option, unwrap_or}
+use Rattle.std.proofs.Common.{◌<◌, ◌≤◌, subst, ◌≡◌, ◌∙◌, ◌+◌, ◌==◌, true, refl, sym, ap, ap₂, arith, length, List, [], ◌∷◌, Some, unwrap_or}
 use Rattle.std.proofs.lemmas.Bool.{eq-eqb}
 use Rattle.sample_windows.specs.Numbered.{Rises}
 use Rattle.relay_settings.specs.declared.types.Common.{Common}

@@ -1,6 +1,5 @@
-use Rattle.std.proofs.Common.{◌≡◌, ◌∙◌, rules, ap, refl, FitsSigned, to_z-of_z}
+use Rattle.std.proofs.Common.{◌∙◌, rules, ap, refl, FitsSigned, to_z-of_z}
 use Rattle.std.specs.Int.{w64}
-use Rattle.relay_num.specs.declared.Cx.{Cx}
 use Rattle.relay_num.proofs.Wide.{same_parts}
 use Rattle.relay_settings.specs.Settings.{plain_line}
 use Rattle.line_relay.specs.Zones.{zone_of}
