@@ -2,6 +2,7 @@
 mod captures;
 mod failing;
 mod inputs;
+mod numbers;
 mod plain;
 mod settings;
 mod signals;
