@@ -1,6 +1,6 @@
 -- The headline: for every accepted settings file and every capture, the event log and GOOSE file that `replay` writes are exactly
--- those of the scalar definition; each line's part is what its own sample sets alone would give; a malformed frame adds its one log
--- line and changes no line's part.
+-- those of the scalar definition, which forms each phasor anew over the last whole cycle of taken samples; each line's part is what
+-- its own sample sets alone would give; a malformed frame adds its one log line and changes no line's part.
 use Rattle.std.specs.Prelude.{◌≡◌, ◌≢◌, ℕ, IsTrue, List, length, Some, Ok, ◌++◌}
 use Rattle.room_io.specs.Room.{RoomState}
 use Rattle.room_io.specs.declared.room.Slot.TheVariants.{Goose, Log}
