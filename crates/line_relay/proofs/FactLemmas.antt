@@ -14,7 +14,8 @@ use Rattle.line_relay.specs.Phasors.{phasors_of, phasor_of, eight}
 use Rattle.line_relay.specs.Outcomes.{number_taken, sample_in, with_sample, outcome_of, taken_samples}
 use Rattle.line_relay.specs.Steps.{step_by, step_of}
 use Rattle.line_relay.specs.Zones.{k0_of, zone_of, is_inside}
-use Rattle.line_relay.specs.Facts.{facts_of, facts_by, facts_after, inside_now, is_tripped}
+use Rattle.line_relay.specs.Facts.{facts_of, inside_now, is_tripped}
+use Rattle.line_relay.specs.FactSteps.{facts_by, facts_after}
 use Rattle.line_relay.proofs.FrontLemmas.{never_ready}
 
 some_where : {X : Type 0} (b : Bool) (x : X) → b ≡ is_some (cond b (Some x) None)

@@ -1,13 +1,10 @@
 -- What holds at the newest taken sample, formed anew from all of them.
-use Rattle.std.specs.Prelude.{Bool, ◌&&◌, ◌||◌, is_some, List, Option, Some, None}
+use Rattle.std.specs.Prelude.{Bool, ◌&&◌, List}
 use Rattle.std.specs.List.{list_any}
 use Rattle.sample_windows.specs.Windows.{at_each}
-use Rattle.relay_num.specs.declared.Cx.{Cx}
 use Rattle.relay_settings.specs.declared.types.Common.{Common}
 use Rattle.relay_settings.specs.Settings.{PlainLine}
-use Rattle.sample_stream.specs.declared.sample.Sample.{Sample}
 use Rattle.line_relay.specs.declared.events.Facts.{Facts}
-use Rattle.line_relay.specs.declared.zone.MhoZone.{MhoZone}
 use Rattle.line_relay.specs.Samples.{Numbered, is_ready}
 use Rattle.line_relay.specs.Phasors.{phasors_of}
 use Rattle.line_relay.specs.Zones.{k0_of, zone_of, is_inside, may_trip}
@@ -36,17 +33,3 @@ module _ (common : Common) (settings : PlainLine) where
     operates = operates_now samples;
     trip = is_tripped samples;
   }
-
--- the facts at a sample with these phasors, after those at the one before
-abbrev pub facts_by : Cx → Option MhoZone → Facts → Option (List Cx) → Facts
-facts_by k0 zone before phasors = record {
-  ready = is_some phasors;
-  inside = is_inside k0 zone phasors;
-  operates = is_inside k0 zone phasors;
-  trip = (is_inside k0 zone phasors && may_trip zone) || before.trip;
-}
-
--- and where no sample is taken they stay
-abbrev pub facts_after : Cx → Option MhoZone → Facts → Option Sample → Option (List Cx) → Facts
-facts_after k0 mho before None phasors = before
-facts_after k0 mho before (Some sample) phasors = facts_by k0 mho before phasors

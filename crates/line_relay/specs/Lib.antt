@@ -6,6 +6,7 @@ pub mod Windows
 pub mod Fronts
 pub mod Zones
 pub mod Facts
+pub mod FactSteps
 pub mod Events
 pub mod Bursts
 pub mod Lines

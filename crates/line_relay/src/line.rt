@@ -5,7 +5,7 @@ ghost use Rattle.std.specs.Option.{option_map, ForSome};
 ghost use Rattle.relay_num.specs.Numbers.{IsBelow};
 ghost use Rattle.event_record.specs.Time.{time_of};
 ghost use Rattle.event_record.specs.Printable.{IsPrintableAt};
-ghost use Rattle.line_relay.specs.Facts.{facts_after as facts_after_step};
+ghost use Rattle.line_relay.specs.FactSteps.{facts_after as facts_after_step};
 
 use crate::events::{Facts, push_arrival, push_changes};
 use crate::front::{Front, Step};
