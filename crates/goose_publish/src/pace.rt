@@ -1,6 +1,6 @@
 //! How far the offsets of the frames after a change have come.
 
-ghost use Rattle.std.specs.Prelude.{◌≡◌};
+ghost use Rattle.std.specs.Prelude.{◌≡◌, ◌<◌, ◌≤◌};
 ghost use Rattle.relay_settings.specs.Samples.{samples};
 
 use relay_settings::Common;
@@ -25,8 +25,6 @@ pub struct Pace {
     ghost short: { step_ms ≤ heartbeat_ms },
     ghost ahead: { 0 < next_ms },
 }
-
-ghost use Rattle.std.specs.Prelude.{◌<◌, ◌≤◌};
 
 impl Pace {
     ghost use Rattle.std.specs.Prelude.{ℕ, ◌≡◌, ◌<◌, ◌≤◌, ◌*◌, ◌-◌, ◌^◌, suc, nat_le, IsTrue};

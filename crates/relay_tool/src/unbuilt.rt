@@ -87,7 +87,7 @@ pub fn built_line(settings: &Settings) -> Result<&LineSettings, Unbuilt>
     requires { InRange settings.now }
     ensures built { IfOk result (λ line. (unbuilt_of (plain_lines settings.now.lines.items) ≡ None) × (settings.now.lines.items ≡ line.now ∷ [])) }
     ensures range { IfOk result (λ line. IsLine line.now) }
-    ensures follows { IfOk result (λ line. IsBuilt (plain_line line.now)) }
+    ensures for_line { IfOk result (λ line. IsBuilt (plain_line line.now)) }
     ensures unbuilt { IfErr result (λ key. unbuilt_of (plain_lines settings.now.lines.items) ≡ Some key) }
 {
     match settings.lines.as_slice() {
