@@ -3,9 +3,9 @@ use Rattle.std.proofs.Common.{◌≡◌, ℕ, ◌+◌, ◌-◌, ◌<◌, ◌≤�
 use borrow.Author.Tests.{ltb-true, ltb-false}
 use Rattle.std.proofs.lemmas.Simd.{get_or-zip2, length-zip2, get_or-replicate, length-replicate}
 use Rattle.std.proofs.lemmas.List.{length-map, get_or-map, map-append}
-use Rattle.relay_num.specs.Windows.{weighted_sum, lane}
+use Rattle.relay_num.specs.WeightedSums.{weighted_sum, lane}
 use Rattle.relay_num.proofs.Signed.{signed}
-use Rattle.relay_num.proofs.WindowLaws.{weighted_sum-push, weighted_sum-slide}
+use Rattle.relay_num.proofs.WeightedSumLaws.{weighted_sum-push, weighted_sum-slide}
 use Rattle.circular_buffer.specs.Buffer.{keep_last}
 use Rattle.lanes.specs.Lanes.{differences, multiples}
 use Rattle.cycle_phasor.specs.Sliding.{slid, values_left, AreSumsOf}

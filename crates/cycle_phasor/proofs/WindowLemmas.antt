@@ -1,8 +1,8 @@
 -- The sums of a window of small samples are small.
 use Rattle.std.proofs.Common.{◌≡◌, ℕ, ◌+◌, ◌-◌, ◌<◌, ◌≤◌, ◌^◌, List, [], ◌-ℤ◌, ◌+ℤ◌, ◌*ℤ◌, Bool, true, false, None, nat_lt, if◌then◌else◌, slice_get, replicate, ◌∷◌, ◌++◌, min, length-append, length-drop, refl, length, map, ◌∙◌, arith, ℤ, pos, unsigned_abs, All}
 use Rattle.std.proofs.lemmas.List.{length-map, get_or-map, get_or_default}
-use Rattle.relay_num.specs.Windows.{weighted_sum, lane, real_weight, imaginary_weight}
-use Rattle.relay_num.proofs.WindowLaws.{weighted_sum_size}
+use Rattle.relay_num.specs.WeightedSums.{weighted_sum, lane, real_weight, imaginary_weight}
+use Rattle.relay_num.proofs.WeightedSumLaws.{weighted_sum_size}
 use Rattle.lanes.specs.Lanes.{AllBelow, sums, differences, multiples}
 use Rattle.std.proofs.lemmas.Simd.{length-zip2, get_or-replicate}
 use borrow.Author.Tests.{ltb-false}

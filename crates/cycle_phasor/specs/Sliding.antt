@@ -1,6 +1,6 @@
 -- What a slide does to the Fourier sums of eight lanes, and the phasors that they give.
 use Rattle.std.specs.Prelude.{◌≡◌, ◌<◌, ◌^◌, ℕ, List, ℤ, pos, Option, Some, None, replicate, map}
-use Rattle.relay_num.specs.Windows.{weighted_sum, lane}
+use Rattle.relay_num.specs.WeightedSums.{weighted_sum, lane}
 use Rattle.std.specs.Simd.Lanes.{zip2}
 use Rattle.relay_num.specs.Numbers.{floor_div}
 use Rattle.relay_num.specs.declared.Cx.{Cx}

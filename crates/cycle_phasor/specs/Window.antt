@@ -1,7 +1,7 @@
 -- A ring of samples and the full-cycle Fourier sums that slide along it (Phadke and Thorp, Computer Relaying for Power Systems).
 use Rattle.std.specs.Prelude.{◌≡◌, ◌≤◌, ◌-◌, ◌^◌, ℕ, List, ℤ, length, All}
 use Rattle.circular_buffer.specs.Buffer.{Buffer}
-use Rattle.relay_num.specs.Windows.{real_weight, imaginary_weight}
+use Rattle.relay_num.specs.WeightedSums.{real_weight, imaginary_weight}
 use Rattle.cycle_phasor.specs.declared.Slider.{Slider}
 use Rattle.lanes.specs.Lanes.{AllBelow}
 use Rattle.cycle_phasor.specs.Sliding.{AreSumsOf}

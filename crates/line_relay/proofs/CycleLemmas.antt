@@ -10,11 +10,11 @@ use Rattle.sample_windows.specs.Numbered.{newest_number, up_to, Rises, held_for,
 use Rattle.sample_windows.proofs.NumberedLemmas.{held_for-run, up_to-in_run}
 use Rattle.circular_buffer.specs.Buffer.{Buffer, keep_last}
 use Rattle.relay_num.specs.Numbers.{floor_div, IsBelow}
-use Rattle.relay_num.specs.Windows.{lane, weighted_sum, real_weight, imaginary_weight}
+use Rattle.relay_num.specs.WeightedSums.{lane, weighted_sum, real_weight, imaginary_weight}
 use Rattle.relay_num.specs.declared.Cx.{Cx}
 use Rattle.relay_num.proofs.Signed.{signed}
 use Rattle.relay_num.proofs.Wide.{complex, same_parts}
-use Rattle.relay_num.proofs.WindowLaws.{weighted_sum-push}
+use Rattle.relay_num.proofs.WeightedSumLaws.{weighted_sum-push}
 use Rattle.lanes.specs.Lanes.{AllBelow}
 use Rattle.cycle_phasor.specs.Sliding.{AreSumsOf, floored}
 use Rattle.cycle_phasor.specs.declared.Slider.{Slider}

@@ -3,7 +3,7 @@
 use Rattle.std.specs.Prelude.{ℕ, zero, suc, ◌-◌, ◌^◌, if◌then◌else◌, List, [], ◌∷◌, Option, Some, None, ℤ, pos, ◌+ℤ◌, ◌*ℤ◌}
 use Rattle.sample_windows.specs.Numbered.{newest_number, up_to}
 use Rattle.relay_num.specs.Numbers.{floor_div}
-use Rattle.relay_num.specs.Windows.{lane, real_weight, imaginary_weight}
+use Rattle.relay_num.specs.WeightedSums.{lane, real_weight, imaginary_weight}
 use Rattle.relay_num.specs.declared.Cx.{Cx}
 use Rattle.relay_settings.specs.declared.types.Mimic.{Mimic}
 use Rattle.mimic_filter.specs.Mimic.{filtered}

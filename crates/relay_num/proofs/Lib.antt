@@ -2,5 +2,5 @@ pub mod Signed
 pub mod Ring
 pub mod Wide
 pub mod WaveLemmas
-pub mod WindowLaws
+pub mod WeightedSumLaws
 mod Digits

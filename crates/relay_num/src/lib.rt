@@ -1,21 +1,36 @@
 //! The relay's whole-number arithmetic: complex numbers, the printed sine tables, counted steps and decimal digits.
 //!
 //! Every call is exact within the bounds that it requires, and nothing here takes memory. It stands on
-//! `arrayvec` for the digits and on std's ledger for the steps; every other crate stands on it. A phasor's
-//! parts are counts scaled as `specs/Windows.antt` says: a peak of A counts over a cycle of N samples
-//! has the size A * N / 64.
+//! `arrayvec` for bounded texts and on std's ledger for the steps; every other crate stands on it. A phasor's
+//! parts are scaled counts: a peak of A counts over a cycle of N samples has the size A * N / 64.
+//! `specs/Bounds.antt` has the sizes that the relay's numbers stay below, and `specs/Numbers.antt` what is done
+//! to them.
 #![tactic(auto)]
 
 ghost use Rattle.std.specs.Prelude.{◌≡◌, ◌^◌, ◌<◌, ◌≤◌, ◌+◌, ℕ, ◌⊎◌, pos, ◌*◌, ◌*ℤ◌, ◌≤ℤ◌, IsTrue, ◌↔◌};
-ghost use Rattle.relay_num.specs.Numbers.{floor_div, IsBelow, value_of, product, conjugate, norm, turned, turned_back, is_at_least};
+ghost use Rattle.relay_num.specs.Numbers.{floor_div, IsBelow, value_of, product, conjugate, norm, sum, difference, scaled, turned, turned_back, is_at_least};
 
+mod copies;
 mod decimals;
 mod steps;
 mod waves;
 
+pub use copies::{copy_of, put_bytes};
 pub use decimals::put_decimal;
 pub use steps::{Steps, open_steps};
 pub use waves::wave;
+
+/// The greatest size of a sample's value, in mA or in counts of 10 mV, raw and filtered.
+pub const MOST_VALUE: i64 = 268_435_455;
+
+/// The samples of a cycle at 4000 samples a second and 50 Hz, or at 4800 and 60 Hz.
+pub const SHORT_CYCLE: u32 = 80;
+
+/// The samples of a cycle at 4800 samples a second and 50 Hz.
+pub const LONG_CYCLE: u32 = 96;
+
+/// A full-cycle sum is divided by 2 to this power to make a phasor.
+pub const PHASOR_BITS: u32 = 19;
 
 /// There was not enough memory.
 #[derive(Clone, Copy, PartialEq, Eq, Debug, Drop)]
@@ -68,6 +83,43 @@ pub fn mul_conj(a: Cx128, b: Cx) -> Cx128
     Cx128 {
         re: a.re * b_re + a.im * b_im,
         im: a.im * b_re - a.re * b_im,
+    }
+}
+
+/// The sum `a + b`, exactly. The parts of both are below `2 ^ 62` in size.
+pub fn sum(a: Cx, b: Cx) -> Cx
+    requires a { IsBelow a (2 ^ 62) }
+    requires b { IsBelow b (2 ^ 62) }
+    ensures { result ≡ sum a b }
+{
+    Cx {
+        re: a.re + b.re,
+        im: a.im + b.im,
+    }
+}
+
+/// The difference `a - b`, exactly. The parts of both are below `2 ^ 62` in size.
+pub fn difference(a: Cx, b: Cx) -> Cx
+    requires a { IsBelow a (2 ^ 62) }
+    requires b { IsBelow b (2 ^ 62) }
+    ensures { result ≡ difference a b }
+{
+    Cx {
+        re: a.re - b.re,
+        im: a.im - b.im,
+    }
+}
+
+/// `k` times `z`, exactly. `k` is at most `2 ^ 16`, and the parts of `z` are below `2 ^ 46` in size.
+pub fn scaled(k: u32, z: Cx) -> Cx
+    requires k { k ≤ 2 ^ 16 }
+    requires z { IsBelow z (2 ^ 46) }
+    ensures { result ≡ scaled k z }
+{
+    let k = i64::from(k);
+    Cx {
+        re: k * z.re,
+        im: k * z.im,
     }
 }
 

@@ -1,6 +1,6 @@
 use Rattle.std.proofs.Common.{◌<◌, ◌∙◌, arith, ℕ, refl}
 use Rattle.cycle_phasor.specs.Window.{IsSample}
-use Rattle.relay_num.specs.Windows.{real_weight, imaginary_weight}
+use Rattle.relay_num.specs.WeightedSums.{real_weight, imaginary_weight}
 use Rattle.relay_num.proofs.WaveLemmas.{real_weight-repeats, imaginary_weight-repeats, real_weight_bound, imaginary_weight_bound}
 use Rattle.cycle_phasor.proofs.WindowLemmas.{moves, length-keep_last, samples_kept}
 use Rattle.line_relay.proofs.window.slide.Goals as goal

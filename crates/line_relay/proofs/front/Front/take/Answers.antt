@@ -17,7 +17,7 @@ use Rattle.line_relay.specs.Steps.{step_by, step_of}
 use Rattle.line_relay.specs.Fronts.{StandsFor}
 use Rattle.line_relay.proofs.CycleLemmas.{AllEight, window_next, phasors_are, phasors_small}
 use Rattle.line_relay.proofs.FrontLemmas.{rises, eights, cycle_some, cycle_few, channels_some, step_taken}
-use Rattle.relay_num.specs.Windows.{real_weight, imaginary_weight}
+use Rattle.relay_num.specs.WeightedSums.{real_weight, imaginary_weight}
 use Rattle.relay_num.proofs.WaveLemmas.{real_weight_bound, imaginary_weight_bound}
 use Rattle.cycle_phasor.proofs.WindowLemmas.{totals_below}
 use Rattle.line_relay.proofs.front.Front.take.Given as given
