@@ -8,7 +8,7 @@
 #![tactic(auto)]
 
 ghost use Rattle.std.specs.Prelude.{◌≡◌, ◌^◌, ◌<◌, ◌≤◌, ◌+◌, ℕ, ◌⊎◌, pos, ◌*◌, ◌*ℤ◌, ◌≤ℤ◌, IsTrue, ◌↔◌};
-ghost use Rattle.relay_num.specs.Numbers.{floor_div, IsBelow, value_of, product, conjugate, norm, sum, difference, scaled, turned, turned_back, is_at_least};
+ghost use Rattle.relay_num.specs.Numbers.{floor_div, IsBelow, value_of, product, conjugate, norm, sum, difference, opposite, scaled, turned, turned_back, is_at_least};
 
 mod copies;
 mod decimals;
@@ -107,6 +107,17 @@ pub fn difference(a: Cx, b: Cx) -> Cx
     Cx {
         re: a.re - b.re,
         im: a.im - b.im,
+    }
+}
+
+/// The opposite of `z`, exactly. Its parts are below `2 ^ 62` in size.
+pub fn opposite(z: Cx) -> Cx
+    requires { IsBelow z (2 ^ 62) }
+    ensures { result ≡ opposite z }
+{
+    Cx {
+        re: -z.re,
+        im: -z.im,
     }
 }
 
