@@ -11,8 +11,11 @@ ghost use Rattle.loop_impedance.specs.Loops.{ArePhasesBelow, AreLoopsBelow, item
 
 use relay_num::{Cx, times_a, times_a2};
 
+mod laws;
 #[cfg(test)]
 mod tests;
+
+pub use laws::show_masks_agree;
 
 /// Voltage and current of each loop.
 #[derive(Clone, Copy, PartialEq, Eq, Debug, Drop)]

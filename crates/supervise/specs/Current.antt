@@ -1,5 +1,5 @@
 -- The least current of a distance relay's loops (Phadke and Thorp, Computer Relaying for Power Systems).
-use Rattle.std.specs.Prelude.{ℕ, ◌+◌, ◌*◌, Bool, ◌&&◌, if◌then◌else◌, List, [], ◌∷◌}
+use Rattle.std.specs.Prelude.{ℕ, Bool, ◌&&◌, List, [], ◌∷◌}
 use Rattle.relay_num.specs.declared.Cx.{Cx}
 use Rattle.relay_num.specs.Numbers.{difference, is_at_least}
 
@@ -13,8 +13,3 @@ allowed a b c i0 n i_min i0_min =
     ∷ is_at_least (difference b c) n i_min
     ∷ is_at_least (difference c a) n i_min
     ∷ []
-
--- the number whose bits these are, the lowest first
-abbrev pub mask : List Bool → ℕ
-mask [] = 0
-mask (b ∷ bits) = (if b then 1 else 0) + 2 * mask bits

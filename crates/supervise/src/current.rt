@@ -3,7 +3,8 @@
 ghost use Rattle.std.specs.Prelude.{◌≡◌, ◌^◌, ◌<◌, ◌≤◌, ◌⊎◌, [], ◌∷◌};
 ghost use Rattle.relay_num.specs.Numbers.{IsBelow, difference, is_at_least};
 ghost use Rattle.loop_impedance.specs.Loops.{ArePhasesBelow, item};
-ghost use Rattle.supervise.specs.Current.{allowed, mask};
+ghost use Rattle.loop_impedance.specs.Masks.{mask};
+ghost use Rattle.supervise.specs.Current.{allowed};
 
 use relay_num::{Cx, at_least_rms};
 

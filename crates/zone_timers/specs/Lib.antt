@@ -1,3 +1,4 @@
 pub mod Masks
 pub mod Operate
-pub mod Runs
+pub mod NumberedOperate
+pub mod KeptTimers
