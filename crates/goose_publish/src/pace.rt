@@ -1,16 +1,8 @@
 //! How far the offsets of the frames after a change have come.
 
 ghost use Rattle.std.specs.Prelude.{◌≡◌, ◌<◌, ◌≤◌};
-ghost use Rattle.relay_settings.specs.Samples.{samples};
 
-use relay_settings::Common;
-
-/// `ms` milliseconds in samples, rounded up, for the offset of any sample.
-fn samples_of(ms: u64, rate: u32) -> u128
-    ensures { result ≡ samples rate ms }
-{
-    (u128::from(ms) * u128::from(rate) + 999) / 1000
-}
+use relay_settings::{Common, wide_samples_of};
 
 /// The least offset that isn't passed yet, and the step that leads to it.
 #[derive(Drop)]
@@ -75,8 +67,8 @@ impl Pace {
             samples common.rate (offset_ms common k) ≤ age → Passed common age self.new }
         ensures later { IsTrue result → 0 < age }
     {
-        let is_due = samples_of(self.next_ms, self.rate) <= u128::from(age);
-        while samples_of(self.next_ms, self.rate) <= u128::from(age) {
+        let is_due = wide_samples_of(self.rate, self.next_ms) <= u128::from(age);
+        while wide_samples_of(self.rate, self.next_ms) <= u128::from(age) {
             self.step_ms = self.heartbeat_ms.min(2 * self.step_ms);
             self.next_ms += u64::from(self.step_ms);
         }

@@ -3,6 +3,7 @@ use Rattle.std.specs.Prelude.{◌≡◌, ◌≢◌, ℕ, Bool, false, List, [], 
 use Rattle.relay_num.specs.declared.Cx.{Cx}
 use Rattle.relay_settings.specs.Settings.{PlainLine}
 use Rattle.relay_settings.specs.declared.types.ZoneSettings.{ZoneSettings}
+use Rattle.relay_settings.specs.declared.types.ZonePart.{ZonePart}
 use Rattle.relay_settings.specs.declared.types.Shape.{Shape}
 use Rattle.relay_settings.specs.declared.types.Shape.TheVariants.{Mho, Quad}
 use Rattle.relay_settings.specs.declared.types.Dir.TheVariants.{Reverse}
@@ -19,10 +20,15 @@ abbrev pub with_reach : Shape → Bool → Option MhoZone
 with_reach (Mho reach) trip = Some (record { reach = reach; trip = trip })
 with_reach (Quad q) trip = None
 
--- the line's zone, where it has one and that is a mho
+-- by its part for the ground loops
+abbrev pub with_part : Option ZonePart → Bool → Option MhoZone
+with_part None trip = None
+with_part (Some part) trip = with_reach part.shape trip
+
+-- the line's zone, where it has one and that is a mho to the ground loops
 abbrev pub zone_of : List ZoneSettings → Option MhoZone
 zone_of [] = None
-zone_of (zone ∷ zones) = with_reach zone.shape zone.trip
+zone_of (zone ∷ zones) = with_part zone.ground zone.trip
 
 -- The zone's characteristic at a loop of the six: the loop's voltage and compensated current, and three times the
 -- positive sequence voltage at the same sample as polarising voltage.
@@ -44,11 +50,15 @@ abbrev pub may_trip : Option MhoZone → Bool
 may_trip None = false
 may_trip (Some zone) = zone.trip
 
--- a zone that is built: a mho without delay, not reverse
+-- a part that is built: a mho without delay
+pub record IsBuiltPart (part : ZonePart) : Type 0 where
+  pub shape : (q : _) → part.shape ≢ Quad q
+  pub delay_ms : part.delay_ms ≡ 0
+
+-- a zone that is built: to the ground loops such a part, not reverse
 pub record IsBuiltZone (zone : ZoneSettings) : Type 0 where
-  pub shape : (q : _) → zone.shape ≢ Quad q
+  pub ground : (part : ZonePart) × (zone.ground ≡ Some part) × IsBuiltPart part
   pub dir : zone.dir ≢ Reverse
-  pub delay_ms : zone.delay_ms ≡ 0
 
 -- at most one zone, and that is built
 abbrev pub AreBuiltZones : List ZoneSettings → Type 0

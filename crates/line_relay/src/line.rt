@@ -52,8 +52,8 @@ impl Line {
     ghost use Rattle.line_relay.specs.Lines.{StandsFor, last_of, name_of};
     ghost use Rattle.line_relay.specs.Zones.{IsBuilt};
 
-    /// A line that has taken nothing. The settings ask for what is built: at most one zone, a mho without
-    /// delay that isn't reverse, and no swing, fuse or load table. `NoMemory` comes only where the allocator
+    /// A line that has taken nothing. The settings ask for what is built: at most one zone, to the
+    /// ground loops a mho without delay, that isn't reverse, and no swing, fuse or load table. `NoMemory` comes only where the allocator
     /// has no room for a cycle of samples; nothing is made then.
     pub fn new(alloc: Global, common: &Common, s: &LineSettings) -> Result<Line, NoMemory>
         requires common { IsCommon common.now }

@@ -29,7 +29,10 @@ pub fn zone_of(zones: &[ZoneSettings]) -> Option<MhoZone>
     let [zone, ..] = zones else {
         return None;
     };
-    match zone.shape {
+    let Some(part) = zone.ground else {
+        return None;
+    };
+    match part.shape {
         Shape::Mho(reach) => Some(MhoZone {
             reach,
             trip: zone.trip,

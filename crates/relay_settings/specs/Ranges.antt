@@ -1,6 +1,6 @@
 -- The ranges of settings: a record for each table of the settings file, with a field for each key that
 -- its type alone does not bound.
-use Rattle.std.specs.Prelude.{◌≡◌, ◌≤◌, ◌⊎◌, ℕ, ℤ, pos, neg_ℤ, ◌≤ℤ◌, ◌<ℤ◌, false, ◌&&◌, nat_le, IsTrue, IfSome, List, length, map, codes}
+use Rattle.std.specs.Prelude.{◌≡◌, ◌≤◌, ◌⊎◌, ℕ, ℤ, pos, neg_ℤ, ◌≤ℤ◌, ◌<ℤ◌, false, ◌&&◌, ◌||◌, nat_le, IsTrue, is_some, IfSome, List, length, map, codes}
 use Rattle.std.specs.List.{All, IsDistinct, list_all}
 use Rattle.std.specs.Str.{bytes_eq}
 use Rattle.relay_num.specs.declared.Cx.{Cx}
@@ -14,6 +14,7 @@ use Rattle.relay_settings.specs.declared.types.LoadSettings.{LoadSettings}
 use Rattle.relay_settings.specs.declared.types.GooseSettings.{GooseSettings}
 use Rattle.relay_settings.specs.declared.types.QuadSettings.{QuadSettings}
 use Rattle.relay_settings.specs.declared.types.ZoneSettings.{ZoneSettings}
+use Rattle.relay_settings.specs.declared.types.ZonePart.{ZonePart}
 use Rattle.relay_settings.specs.declared.types.Shape.{Shape}
 use Rattle.relay_settings.specs.declared.types.Shape.TheVariants.{Mho, Quad}
 
@@ -88,27 +89,43 @@ abbrev pub IsShape : Shape → Type 0
 IsShape (Mho reach) = IsReach reach
 IsShape (Quad q) = IsQuad q
 
+pub record IsZonePart (p : ZonePart) : Type 0 where
+  pub shape : IsShape p.shape
+  pub delay_ms : p.delay_ms ≤ 60000
+
+-- a part is there, or both
 pub record IsZone (z : ZoneSettings) : Type 0 where
-  pub shape : IsShape z.shape
-  pub delay_ms : z.delay_ms ≤ 60000
+  pub some : IsTrue (is_some z.ground || is_some z.phase)
+  pub ground : IfSome z.ground IsZonePart
+  pub phase : IfSome z.phase IsZonePart
+
+-- the least smpSynch of a good sample
+abbrev pub IsSynch : ℕ → Type 0
+IsSynch synch_min = synch_min ≤ 2
+
+pub record IsImpedance (line_r' line_x' k0_re' k0_im' : ℤ) : Type 0 where
+  pub line_r : IsWhole (pos 0) (pos 1000000) line_r'
+  pub line_x : IsWhole (pos 1) (pos 1000000) line_x'
+  pub k0_re : IsWhole (neg_ℤ (pos 4000)) (pos 4000) k0_re'
+  pub k0_im : IsWhole (neg_ℤ (pos 4000)) (pos 4000) k0_im'
+
+pub record IsLimits (i_min' i0_min' dir_i2' mem_u' mem_ms' trip_min_ms' open_i' open_ms' : ℕ) : Type 0 where
+  pub i_min : IsCount 1 100000000 i_min'
+  pub i0_min : IsCount 1 100000000 i0_min'
+  pub dir_i2 : IsCount 1 100000000 dir_i2'
+  pub mem_u : IsCount 1 100000000 mem_u'
+  pub mem_ms : mem_ms' ≤ 5000
+  pub trip_min_ms : trip_min_ms' ≤ 10000
+  pub open_i : IsCount 1 100000000 open_i'
+  pub open_ms : IsCount 1 10000 open_ms'
 
 pub record IsLine (l : LineSettings) : Type 0 where
   pub name : IsText 0x21 16 l.name.items
   pub not_frame : bytes_eq l.name.items (codes "frame") ≡ false
   pub sv_id : IsText 0x20 129 l.sv_id.items
-  pub synch_min : l.synch_min ≤ 2
-  pub line_r : IsWhole (pos 0) (pos 1000000) l.line_r
-  pub line_x : IsWhole (pos 1) (pos 1000000) l.line_x
-  pub k0_re : IsWhole (neg_ℤ (pos 4000)) (pos 4000) l.k0_re
-  pub k0_im : IsWhole (neg_ℤ (pos 4000)) (pos 4000) l.k0_im
-  pub i_min : IsCount 1 100000000 l.i_min
-  pub i0_min : IsCount 1 100000000 l.i0_min
-  pub dir_i2 : IsCount 1 100000000 l.dir_i2
-  pub mem_u : IsCount 1 100000000 l.mem_u
-  pub mem_ms : l.mem_ms ≤ 5000
-  pub trip_min_ms : l.trip_min_ms ≤ 10000
-  pub open_i : IsCount 1 100000000 l.open_i
-  pub open_ms : IsCount 1 10000 l.open_ms
+  pub synch_min : IsSynch l.synch_min
+  pub impedance : IsImpedance l.line_r l.line_x l.k0_re l.k0_im
+  pub limits : IsLimits l.i_min l.i0_min l.dir_i2 l.mem_u l.mem_ms l.trip_min_ms l.open_i l.open_ms
   pub mimic : IfSome l.mimic IsMimic
   pub swing : IfSome l.swing IsSwing
   pub fuse : IfSome l.fuse IsFuse

@@ -18,11 +18,13 @@ pub enum Unbuilt {
     Load,
     /// More than one zone.
     Zones,
-    /// A zone with shape `quad`.
+    /// A zone without a part for the ground loops.
+    NoGround,
+    /// A zone with shape `quad` for the ground loops.
     Quad,
     /// A zone with dir `reverse`.
     Reverse,
-    /// A zone with `delay_ms` above 0.
+    /// A zone with `delay_ms` above 0 for the ground loops.
     Delay,
 }
 
@@ -36,6 +38,7 @@ pub fn key_text(unbuilt: Unbuilt) -> &'static [u8]
         Unbuilt::Fuse => b"line.1.fuse",
         Unbuilt::Load => b"line.1.load",
         Unbuilt::Zones => b"line.1.zone",
+        Unbuilt::NoGround => b"line.1.zone.1.ground",
         Unbuilt::Quad => b"line.1.zone.1.shape",
         Unbuilt::Reverse => b"line.1.zone.1.dir",
         Unbuilt::Delay => b"line.1.zone.1.delay_ms",
@@ -46,11 +49,14 @@ pub fn key_text(unbuilt: Unbuilt) -> &'static [u8]
 fn unbuilt_in_zone(zone: &ZoneSettings) -> Option<Unbuilt>
     ensures { result ≡ unbuilt_in_zone zone.now }
 {
-    if matches!(zone.shape, Shape::Quad(_)) {
+    let Some(part) = zone.ground else {
+        return Some(Unbuilt::NoGround);
+    };
+    if matches!(part.shape, Shape::Quad(_)) {
         Some(Unbuilt::Quad)
     } else if matches!(zone.dir, Dir::Reverse) {
         Some(Unbuilt::Reverse)
-    } else if zone.delay_ms > 0 {
+    } else if part.delay_ms > 0 {
         Some(Unbuilt::Delay)
     } else {
         None

@@ -5,4 +5,4 @@ pub mod Items
 pub mod DayRange
 pub mod Tree
 pub mod Repeats
-pub mod Lines
+pub mod NewLine

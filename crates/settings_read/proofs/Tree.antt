@@ -7,7 +7,8 @@ use Rattle.std.proofs.lemmas.Str.{IsUtf8-from_is_utf8, is_utf8-from_IsUtf8}
 use Rattle.toml.specs.Data.{Members}
 use Rattle.toml.specs.Parse.{parse_document}
 use Rattle.settings_read.specs.Walk.{refused}
-use Rattle.settings_read.specs.Accepted.{tree, top_of, settings_at, accepted}
+use Rattle.settings_read.specs.TopTable.{settings_at}
+use Rattle.settings_read.specs.Accepted.{tree, top_of, accepted}
 
 pub tree-text : (bytes : List ℕ) → IsUtf8 bytes → tree bytes ≡ parse_document bytes
 tree-text bytes text = rw (is_utf8-from_IsUtf8 bytes text)

@@ -1,32 +1,22 @@
 -- The ranges of the parts of a line that are read together, and what the lines of a file are.
-use Rattle.std.specs.Prelude.{◌≡◌, ◌≤◌, pos, neg_ℤ, false, IfSome, List, map}
+use Rattle.std.specs.Prelude.{◌≡◌, false, IfSome, List, map}
 use Rattle.std.specs.List.{All, IsDistinct, list_any}
 use Rattle.std.specs.Str.{bytes_eq}
 use Rattle.relay_settings.specs.declared.types.LineSettings.{LineSettings}
-use Rattle.relay_settings.specs.Ranges.{IsCount, IsWhole, IsMimic, IsSwing, IsFuse, IsLoad, IsLine}
+use Rattle.relay_settings.specs.Ranges.{IsSynch, IsImpedance, IsLimits, IsMimic, IsSwing, IsFuse, IsLoad, IsLine}
 use Rattle.settings_read.specs.declared.line.Stream.{Stream}
 use Rattle.settings_read.specs.declared.line.Impedance.{Impedance}
 use Rattle.settings_read.specs.declared.line.Limits.{Limits}
 use Rattle.settings_read.specs.declared.line.Guards.{Guards}
 
 abbrev pub IsStream : Stream → Type 0
-IsStream s = s.synch_min ≤ 2
+IsStream s = IsSynch s.synch_min
 
-pub record IsImpedance (z : Impedance) : Type 0 where
-  pub line_r : IsWhole (pos 0) (pos 1000000) z.line_r
-  pub line_x : IsWhole (pos 1) (pos 1000000) z.line_x
-  pub k0_re : IsWhole (neg_ℤ (pos 4000)) (pos 4000) z.k0_re
-  pub k0_im : IsWhole (neg_ℤ (pos 4000)) (pos 4000) z.k0_im
+abbrev pub IsImpedanceRead : Impedance → Type 0
+IsImpedanceRead z = IsImpedance z.line_r z.line_x z.k0_re z.k0_im
 
-pub record IsLimits (l : Limits) : Type 0 where
-  pub i_min : IsCount 1 100000000 l.i_min
-  pub i0_min : IsCount 1 100000000 l.i0_min
-  pub dir_i2 : IsCount 1 100000000 l.dir_i2
-  pub mem_u : IsCount 1 100000000 l.mem_u
-  pub mem_ms : l.mem_ms ≤ 5000
-  pub trip_min_ms : l.trip_min_ms ≤ 10000
-  pub open_i : IsCount 1 100000000 l.open_i
-  pub open_ms : IsCount 1 10000 l.open_ms
+abbrev pub IsLimitsRead : Limits → Type 0
+IsLimitsRead l = IsLimits l.i_min l.i0_min l.dir_i2 l.mem_u l.mem_ms l.trip_min_ms l.open_i l.open_ms
 
 pub record IsGuards (g : Guards) : Type 0 where
   pub mimic : IfSome g.mimic IsMimic

@@ -5,7 +5,7 @@ ghost use Rattle.relay_settings.specs.Settings.{plain_goose};
 ghost use Rattle.settings_read.specs.View.{shown, place_of};
 ghost use Rattle.settings_read.specs.Octets.{octets_of_word};
 ghost use Rattle.settings_read.specs.Walk.{only, word, required_table};
-ghost use Rattle.settings_read.specs.Accepted.{goose_keys, goose_at};
+ghost use Rattle.settings_read.specs.GooseTable.{goose_keys, goose_at};
 
 use crate::keys::only;
 use crate::octets::octets_of_word;
@@ -44,7 +44,7 @@ fn octets_at(here: &Place, key: &str) -> Result<[u8; 6], Refusal>
     }
 }
 
-#[tactic(auto, unfolding(crate::specs::Accepted::goose_at))]
+#[tactic(auto, unfolding(crate::specs::GooseTable::goose_at))]
 fn goose_at(here: &Place) -> Result<GooseSettings, Refusal>
     ensures value { shown plain_goose result ≡ goose_at (place_of here.now) }
     ensures ranges { IfOk result IsGoose }

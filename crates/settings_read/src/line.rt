@@ -4,16 +4,17 @@ ghost use Rattle.std.specs.Str.{bytes_eq};
 ghost use Rattle.relay_settings.specs.Settings.{plain_line};
 ghost use Rattle.relay_settings.specs.Ranges.{IsText, IsLine};
 ghost use Rattle.settings_read.specs.View.{shown, place_of};
-ghost use Rattle.settings_read.specs.Parts.{IsStream, IsImpedance, IsLimits, IsGuards};
+ghost use Rattle.settings_read.specs.Parts.{IsStream, IsImpedanceRead, IsLimitsRead, IsGuards};
 ghost use Rattle.settings_read.specs.Walk.{only, word};
-ghost use Rattle.settings_read.specs.Accepted.{name_of_word, line_keys, stream_at, impedance_at, limits_at, guards_at, line_at};
+ghost use Rattle.settings_read.specs.LineTable.{name_of_word, line_keys, stream_at, impedance_at, limits_at, guards_at, line_at};
 
 use crate::goose::goose_of;
 use crate::keys::only;
 use crate::place::{Place, Refusal};
 use crate::tables::{fuse_of, load_of, mimic_of, swing_of};
 use crate::value::{optional_count, required_count, required_text, required_whole};
-use crate::zone::zones_at;
+use crate::version::Version;
+use crate::zones::zones_at;
 use arrayvec::ArrayVec;
 use relay_settings::{FuseSettings, LineSettings, LoadSettings, Mimic, SwingSettings};
 
@@ -102,7 +103,7 @@ fn name_at(here: &Place) -> Result<ArrayVec<u8, 16>, Refusal>
     Ok(name)
 }
 
-#[tactic(auto, unfolding(crate::specs::Accepted::stream_at))]
+#[tactic(auto, unfolding(crate::specs::LineTable::stream_at))]
 fn stream_at(here: &Place) -> Result<Stream, Refusal>
     ensures value { shown (λ s. s) result ≡ stream_at (place_of here.now) }
     ensures ranges { IfOk result IsStream }
@@ -117,10 +118,10 @@ fn stream_at(here: &Place) -> Result<Stream, Refusal>
     })
 }
 
-#[tactic(auto, unfolding(crate::specs::Accepted::impedance_at))]
+#[tactic(auto, unfolding(crate::specs::LineTable::impedance_at))]
 fn impedance_at(here: &Place) -> Result<Impedance, Refusal>
     ensures value { shown (λ z. z) result ≡ impedance_at (place_of here.now) }
-    ensures ranges { IfOk result IsImpedance }
+    ensures ranges { IfOk result IsImpedanceRead }
 {
     let line_r = required_whole(here, "line_r", 0, 1_000_000)?;
     let line_x = required_whole(here, "line_x", 1, 1_000_000)?;
@@ -134,10 +135,10 @@ fn impedance_at(here: &Place) -> Result<Impedance, Refusal>
     })
 }
 
-#[tactic(auto, unfolding(crate::specs::Accepted::limits_at))]
+#[tactic(auto, unfolding(crate::specs::LineTable::limits_at))]
 fn limits_at(here: &Place) -> Result<Limits, Refusal>
     ensures value { shown (λ l. l) result ≡ limits_at (place_of here.now) }
-    ensures ranges { IfOk result IsLimits }
+    ensures ranges { IfOk result IsLimitsRead }
 {
     let i_min = required_count(here, "i_min", 1, 100_000_000)?;
     let i0_min = required_count(here, "i0_min", 1, 100_000_000)?;
@@ -159,9 +160,9 @@ fn limits_at(here: &Place) -> Result<Limits, Refusal>
     })
 }
 
-#[tactic(auto, unfolding(crate::specs::Accepted::guards_at))]
+#[tactic(auto, unfolding(crate::specs::LineTable::guards_at))]
 fn guards_at(here: &Place) -> Result<Guards, Refusal>
-    requires { length here.now.prefix.bytes ≤ 16 }
+    requires { length here.now.prefix.bytes ≤ 12 }
     ensures value { shown (λ g. g) result ≡ guards_at (place_of here.now) }
     ensures ranges { IfOk result IsGuards }
 {
@@ -178,10 +179,10 @@ fn guards_at(here: &Place) -> Result<Guards, Refusal>
 }
 
 /// The line of a table.
-#[tactic(auto, unfolding(crate::specs::Accepted::line_at))]
-pub(crate) fn line_at(here: &Place) -> Result<LineSettings, Refusal>
-    requires { length here.now.prefix.bytes ≤ 16 }
-    ensures value { shown plain_line result ≡ line_at (place_of here.now) }
+#[tactic(auto, unfolding(crate::specs::LineTable::line_at))]
+pub(crate) fn line_at(version: Version, here: &Place) -> Result<LineSettings, Refusal>
+    requires { length here.now.prefix.bytes ≤ 12 }
+    ensures value { shown plain_line result ≡ line_at version (place_of here.now) }
     ensures ranges { IfOk result IsLine }
 {
     only_line_keys(here)?;
@@ -192,7 +193,7 @@ pub(crate) fn line_at(here: &Place) -> Result<LineSettings, Refusal>
     let limits = limits_at(here)?;
     let guards = guards_at(here)?;
     let goose = goose_of(here)?;
-    let zones = zones_at(here)?;
+    let zones = zones_at(version, here)?;
     Ok(LineSettings {
         name,
         sv_id,

@@ -48,7 +48,7 @@ impl Place<'_> {
 
     /// A table at a key of the table.
     pub(crate) fn below<'b>(&self, key: &str, table: &'b Table) -> Place<'b>
-        requires { length self.now.prefix.bytes + length key.now ≤ 24 }
+        requires { length self.now.prefix.bytes + length key.now ≤ 31 }
         ensures { place_of result ≡ below (place_of self.now) key.now (table_view table.now) }
     {
         let mut name = self.prefix;

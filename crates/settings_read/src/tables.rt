@@ -3,14 +3,17 @@ ghost use Rattle.std.specs.Prelude.{◌≡◌, ◌≤◌, length, codes, IfOk, I
 ghost use Rattle.relay_settings.specs.Ranges.{IsMimic, IsSwing, IsFuse, IsLoad};
 ghost use Rattle.settings_read.specs.View.{shown, place_of};
 ghost use Rattle.settings_read.specs.Walk.{only, optional_table};
-ghost use Rattle.settings_read.specs.Accepted.{mimic_at, swing_keys, swing_at, fuse_at, load_at};
+ghost use Rattle.settings_read.specs.MimicTable.{mimic_at};
+ghost use Rattle.settings_read.specs.SwingTable.{swing_keys, swing_at};
+ghost use Rattle.settings_read.specs.FuseTable.{fuse_at};
+ghost use Rattle.settings_read.specs.LoadTable.{load_at};
 
 use crate::keys::only;
 use crate::place::{Place, Refusal};
 use crate::value::{required_count, required_whole};
 use relay_settings::{FuseSettings, LoadSettings, Mimic, SwingSettings};
 
-#[tactic(auto, unfolding(crate::specs::Accepted::mimic_at))]
+#[tactic(auto, unfolding(crate::specs::MimicTable::mimic_at))]
 fn mimic_at(here: &Place) -> Result<Mimic, Refusal>
     ensures value { shown (λ m. m) result ≡ mimic_at (place_of here.now) }
     ensures ranges { IfOk result IsMimic }
@@ -32,7 +35,7 @@ fn only_swing_keys(here: &Place) -> Result<(), Refusal>
     )
 }
 
-#[tactic(auto, unfolding(crate::specs::Accepted::swing_at))]
+#[tactic(auto, unfolding(crate::specs::SwingTable::swing_at))]
 fn swing_at(here: &Place) -> Result<SwingSettings, Refusal>
     ensures value { shown (λ s. s) result ≡ swing_at (place_of here.now) }
     ensures ranges { IfOk result IsSwing }
@@ -62,7 +65,7 @@ fn swing_at(here: &Place) -> Result<SwingSettings, Refusal>
     })
 }
 
-#[tactic(auto, unfolding(crate::specs::Accepted::fuse_at))]
+#[tactic(auto, unfolding(crate::specs::FuseTable::fuse_at))]
 fn fuse_at(here: &Place) -> Result<FuseSettings, Refusal>
     ensures value { shown (λ f. f) result ≡ fuse_at (place_of here.now) }
     ensures ranges { IfOk result IsFuse }
@@ -78,7 +81,7 @@ fn fuse_at(here: &Place) -> Result<FuseSettings, Refusal>
     })
 }
 
-#[tactic(auto, unfolding(crate::specs::Accepted::load_at))]
+#[tactic(auto, unfolding(crate::specs::LoadTable::load_at))]
 fn load_at(here: &Place) -> Result<LoadSettings, Refusal>
     ensures value { shown (λ l. l) result ≡ load_at (place_of here.now) }
     ensures ranges { IfOk result IsLoad }

@@ -160,7 +160,7 @@ i2_share = 200
     (
         &CHECK,
         "version = 1",
-        "version = 2",
+        "version = 3",
         2,
         "",
         "settings refused 6 version\n",

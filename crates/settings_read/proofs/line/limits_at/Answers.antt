@@ -1,4 +1,4 @@
-use Rattle.settings_read.specs.Accepted.{limits_at}
+use Rattle.settings_read.specs.LineTable.{limits_at}
 use Rattle.settings_read.proofs.line.limits_at.Goals as goal
 
 pub returns-clause-value : goal.returns-clause-value

@@ -19,6 +19,6 @@ loop-self-preserved c = record {
         };
         passed =
             rw (← now.at.next, ← now.at.rate)
-            (omega (arith, c.samples_of-in-loop-self.ensures, c.from-in-loop-self.ensures, c.loop-self-test.true));
+            (omega (arith, c.wide_samples_of-in-loop-self.ensures, c.from-in-loop-self.ensures, c.loop-self-test.true));
       };
 }

@@ -1,4 +1,4 @@
-use Rattle.settings_read.proofs.zone.only_zone_keys.Goals as goal
+use Rattle.settings_read.proofs.zone_v1.only_keys_v1.Goals as goal
 
 pub returns-then-is_quad : goal.returns-then-is_quad
 returns-then-is_quad c = rw c.if-is_quad.true c.only.ensures

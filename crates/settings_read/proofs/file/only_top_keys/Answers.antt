@@ -1,4 +1,0 @@
-use Rattle.settings_read.proofs.file.only_top_keys.Goals as goal
-
-pub returns : goal.returns
-returns c = c.only.ensures
