@@ -3,10 +3,11 @@
 //! Each line of `rows.txt` is an answer that is owed, a base text and an edit of it: `OWED | BASE |
 //! OLD | NEW`, where `\n` stands for a line's end. The program prints each line with the answer that
 //! the edited text gets in the place of the owed one, so `stdout` is `rows.txt` itself, followed by
-//! three texts that no edit makes. Owed is `ok L lines Z zones`, or the number and key of a refusal.
+//! three texts that no edit makes, and by the zones of three texts, with all that they say. Owed is
+//! `ok L lines Z zones`, or the number and key of a refusal.
 #![tactic(auto)]
 
-use relay_settings::Settings;
+use relay_settings::{Dir, Settings, Shape, ZonePart, ZoneSettings};
 use settings_read::{SettingsError, read_settings};
 use std::alloc::{AllocError, Global};
 use std::{fs, io};
@@ -54,6 +55,55 @@ fn padded(alloc: Global, base: &str, length: usize) -> Result<String, AllocError
     Ok(text)
 }
 
+/// A part of a zone: its shape with the reaches, and its delay.
+fn part_text(alloc: Global, part: &Option<ZonePart>) -> Result<String, AllocError> {
+    let Some(part) = part else {
+        return format!(in alloc; "none");
+    };
+    let delay = part.delay_ms;
+    match &part.shape {
+        Shape::Mho(reach) => {
+            let (r, x) = (reach.re, reach.im);
+            format!(in alloc; "mho {r} {x}, {delay} ms")
+        }
+        Shape::Quad(q) => {
+            let (r, x) = (q.reach_r, q.reach_x);
+            let (tilt, slope, back) = (q.tilt, q.slope, q.back_x);
+            format!(in alloc; "quad {r} {x} {tilt} {slope} {back}, {delay} ms")
+        }
+    }
+}
+
+/// A zone: its direction, `trip`, `swing_block` and `load_block`, and its two parts.
+fn zone_text(alloc: Global, zone: &ZoneSettings) -> Result<String, AllocError> {
+    let dir = match zone.dir {
+        Dir::Forward => "forward",
+        Dir::Reverse => "reverse",
+        Dir::Unasked => "none",
+    };
+    let (trip, swing, load) = (zone.trip, zone.swing_block, zone.load_block);
+    let ground = part_text(alloc, &zone.ground)?;
+    let phase = part_text(alloc, &zone.phase)?;
+    format!(in alloc; "{dir} {trip} {swing} {load} | {ground} | {phase}")
+}
+
+/// Prints the zones of the text's lines.
+fn zones(rt: &HostRuntime, name: &str) -> io::Result<()> {
+    let alloc = rt.alloc();
+    let path = format!(in alloc; "{name}.toml")?;
+    let bytes = fs::read(rt, path.as_str())?;
+    let Ok(settings) = read_settings(alloc, bytes.as_slice()) else {
+        return println!(rt; "{name} | refused");
+    };
+    for line in settings.lines.as_slice() {
+        for zone in line.zones.as_slice() {
+            let text = zone_text(alloc, zone)?;
+            println!(rt; "{name} | {text}")?;
+        }
+    }
+    Ok(())
+}
+
 fn row(rt: &HostRuntime, line: &str) -> io::Result<()> {
     let alloc = rt.alloc();
     let (_, row) = line.split_once(" | ").unwrap_or(("", line));
@@ -81,5 +131,9 @@ fn main(rt: HostRuntime) -> io::Result<()> {
     println!(rt; "{answer_long} | s1 | 1048577 bytes")?;
     let bytes = fs::read(&rt, "not_utf8.toml")?;
     let answer_bytes = answer(alloc, bytes.as_slice())?;
-    println!(rt; "{answer_bytes} | not_utf8")
+    println!(rt; "{answer_bytes} | not_utf8")?;
+    for name in ["full", "s3", "parts"] {
+        zones(&rt, name)?;
+    }
+    Ok(())
 }
