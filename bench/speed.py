@@ -65,8 +65,8 @@ load_block = false
 """
 TABLES = """
 [line.mimic]
-a = 3921
-b = 3894
+a = 15646
+b = 15573
 
 [line.swing]
 outer_r = 70000
@@ -166,10 +166,10 @@ def callgrind(folder, capture):
 
 
 def lengths(lines, sets):
-    """Two lengths in numbers a line, whole frames, behind the first cycles."""
-    unit = 96 * sets // (2 if sets > 1 else 1)
-    short = max(960 // lines, 192) // unit * unit or unit
-    return short, short + max(4800 // lines, 480) // unit * unit
+    """Two lengths in numbers a line: whole cycles in whole frames, behind the first two cycles."""
+    unit = 96 * sets
+    short = unit * max(2, 960 // lines // unit)
+    return short, short + unit * max(1, 4800 // lines // unit)
 
 
 def instructions(folder, kind, lines, sets):
@@ -270,59 +270,81 @@ def parts():
 
 
 COUNTER = r"""
-#define _GNU_SOURCE
-#include <dlfcn.h>
 #include <stdio.h>
 #include <stddef.h>
-static unsigned long calls[3], large[3], sizes[3][64], seen[3];
+static const char *const names[3] = {"memset", "memcpy", "memmove"};
+static unsigned long calls[3], times[3][64];
+static size_t sizes[3][64];
 static void note(int k, size_t n) {
     calls[k]++;
-    if (n > 1024) large[k]++;
-    unsigned long b = 0;
-    while (b < 63 && (n >> b) > 1) b++;
-    sizes[k][b]++;
+    for (int j = 0; n > 1024 && j < 64; j++) {
+        if (sizes[k][j] == 0) sizes[k][j] = n;
+        if (sizes[k][j] == n) { times[k][j]++; break; }
+    }
 }
-void *memset(void *p, int c, size_t n) { note(0, n); char *q = p; while (n--) { *q++ = (char)c; __asm__ volatile(""); } return p; }
-void *memcpy(void *d, const void *s, size_t n) { note(1, n); char *q = d; const char *r = s; while (n--) { *q++ = *r++; __asm__ volatile(""); } return d; }
+void *memset(void *p, int c, size_t n) {
+    note(0, n);
+    for (volatile char *q = p; n--;) *q++ = (char)c;
+    return p;
+}
+void *memcpy(void *d, const void *s, size_t n) {
+    note(1, n);
+    const char *r = s;
+    for (volatile char *q = d; n--;) *q++ = *r++;
+    return d;
+}
 void *memmove(void *d, const void *s, size_t n) {
-    note(2, n); char *q = d; const char *r = s;
-    if (q < r) while (n--) { *q++ = *r++; __asm__ volatile(""); }
-    else while (n--) { q[n] = r[n]; __asm__ volatile(""); }
+    note(2, n);
+    volatile char *q = d;
+    const char *r = s;
+    if (q < r) while (n--) *q++ = *r++;
+    else while (n--) q[n] = r[n];
     return d;
 }
 __attribute__((destructor)) static void tell(void) {
-    const char *names[3] = {"memset", "memcpy", "memmove"};
-    for (int k = 0; k < 3; k++) fprintf(stderr, "sizes %s %lu %lu\n", names[k], calls[k], large[k]);
+    for (int k = 0; k < 3; k++) {
+        fprintf(stderr, "sizes %s 0 %lu\n", names[k], calls[k]);
+        for (int j = 0; j < 64 && sizes[k][j]; j++) fprintf(stderr, "sizes %s %zu %lu\n", names[k], sizes[k][j], times[k][j]);
+    }
 }
 """
 
 
 def sizes():
-    """Calls of memset, memcpy and memmove a record, and those above 1024 bytes, by the difference of two lengths."""
-    print("| Signal and settings | Sets a frame | Call | Calls a record | above 1024 bytes |\n|---|---|---|---|---|")
+    """Calls of memset, memcpy and memmove a record, and those above 1024 bytes by their size, by the difference of two
+    lengths."""
+    print("| Signal and settings | Sets a frame | Call | Calls a record | Above 1024 bytes: calls of bytes |\n|---|---|---|---|---|")
     with tempfile.TemporaryDirectory() as folder:
         with open(f"{folder}/sizes.c", "w", encoding="ascii") as file:
             file.write(COUNTER)
-        subprocess.run(["cc", "-O1", "-fno-builtin", "-fno-tree-loop-distribute-patterns", "-shared", "-fPIC", "-o",
+        subprocess.run(["cc", "-O1", "-fno-builtin", "-shared", "-fPIC", "-o",
                         f"{folder}/sizes.so", f"{folder}/sizes.c"], check=True)
         for kind, lines, sets in (("healthy", 1, 1), ("healthy", 1, 8), ("fault", 1, 1), ("fault, all tables, five zones", 1, 8)):
             with open(f"{folder}/settings.toml", "w", encoding="ascii") as file:
                 file.write(settings(kind, lines))
-            found = []
-            for numbers in lengths(lines, sets):
-                write_capture(f"{folder}/capture.pcap", kind, lines, sets, numbers)
-                done = subprocess.run(words(folder, f"{folder}/capture.pcap"), capture_output=True, text=True,
-                                      env={**os.environ, "LD_PRELOAD": f"{folder}/sizes.so"})
-                told = re.findall(r"^sizes (\w+) (\d+) (\d+)$", done.stderr, re.M)
-                if done.returncode or not told:
-                    print(f"| {kind} | {sets} | {done.stderr.splitlines()[0] if done.stderr else 'nothing told'} | | |")
-                    break
-                found.append(({name: (int(a), int(b)) for name, a, b in told}, numbers * lines / sets))
-            else:
-                (a, n0), (b, n1) = found
-                for name in b:
-                    each = [(y - x) / (n1 - n0) for x, y in zip(a[name], b[name])]
-                    print(f"| {kind} | {sets} | {name} | {each[0]:.1f} | {each[1]:.1f} |")
+            try:
+                print_sizes(kind, sets, [sizes_of(folder, kind, lines, sets, n) for n in lengths(lines, sets)])
+            except Refused as error:
+                print(f"| {kind} | {sets} | {error} | | |")
+
+
+def sizes_of(folder, kind, lines, sets, numbers):
+    """The count of each call and size, 0 for all sizes together, and the records."""
+    write_capture(f"{folder}/capture.pcap", kind, lines, sets, numbers)
+    done = subprocess.run(words(folder, f"{folder}/capture.pcap"), capture_output=True, text=True,
+                          env={**os.environ, "LD_PRELOAD": f"{folder}/sizes.so"})
+    told = re.findall(r"^sizes (\w+) (\d+) (\d+)$", done.stderr, re.M)
+    if done.returncode or not told:
+        raise Refused(done.stderr.splitlines()[0] if done.stderr else "nothing told")
+    return {(name, int(size)): int(count) for name, size, count in told}, numbers * lines // sets
+
+
+def print_sizes(kind, sets, found):
+    (a, n0), (b, n1) = found
+    each = {key: (b[key] - a.get(key, 0)) / (n1 - n0) for key in b}
+    for name in ("memset", "memcpy", "memmove"):
+        large = [f"{count:.1f} of {size}" for (call, size), count in sorted(each.items()) if call == name and size and count >= 0.05]
+        print(f"| {kind} | {sets} | {name} | {each[name, 0]:.1f} | {', '.join(large) or 'none'} |")
 
 
 if __name__ == "__main__":
