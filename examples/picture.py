@@ -15,6 +15,7 @@ them are strips of what the log says: ready, swing, fuse, inside (hatched) and o
 The rings with numbers on the loop's path are where the log says that it comes in or goes out.
 Beside them is the R-X plane with the zones' characteristics and the loop's path, a dot each eighth sample.
 """
+import math
 import sys
 
 import plain_relay as rules
@@ -217,7 +218,6 @@ def outline(part, reverse):
     sign = -1 if reverse else 1
     r, x = part["reach_r"] / 1000, part["reach_x"] / 1000
     if part["shape"] == "mho":
-        import math
         radius = math.hypot(r, x) / 2
         return [(sign * (r / 2 + radius * math.cos(t * math.tau / 90)), sign * (x / 2 + radius * math.sin(t * math.tau / 90)))
                 for t in range(91)]
