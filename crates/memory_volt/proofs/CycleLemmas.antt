@@ -8,7 +8,7 @@ use Rattle.std.proofs.Math.Seq.{drop-append_seam}
 use Rattle.circular_buffer.specs.Buffer.{Buffer, buffer, keep_last}
 use Rattle.relay_num.specs.declared.Cx.{Cx}
 use Rattle.memory_volt.specs.Polarising.{VoltTake, voltage_of, voltage_now}
-use Rattle.memory_volt.specs.Held.{cycle_of}
+use Rattle.memory_volt.specs.KeptMemory.{cycle_of}
 
 module _ {X : Type 0} where
   -- the last of a list turned round are its first ones turned round

@@ -1,3 +1,4 @@
 pub mod CycleLemmas
 pub mod MemoryLemmas
+pub mod SizeLemmas
 pub mod NumberedLemmas

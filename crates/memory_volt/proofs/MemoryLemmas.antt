@@ -4,7 +4,7 @@ use Rattle.std.specs.Prelude.{Option, None, if◌then◌else◌}
 use Rattle.std.proofs.lemmas.Bool.{cases_lt, cases_eq, le-leb, lt-leb, ne_eqb, cond-true, cond-false}
 use Rattle.relay_num.specs.declared.Cx.{Cx}
 use Rattle.memory_volt.specs.Polarising.{VoltTake, voltage_of, voltage_now, low_run, polarising}
-use Rattle.memory_volt.specs.Held.{StandsFor}
+use Rattle.memory_volt.specs.KeptMemory.{StandsFor}
 use Rattle.memory_volt.specs.declared.MemoryVolt.{MemoryVolt}
 
 -- in a run of low takes that are held for

@@ -9,13 +9,12 @@ use Rattle.sample_windows.specs.Numbered.{Rises, held_for, run_of, of_run}
 use Rattle.sample_windows.proofs.NumberedLemmas.{held_for-run, up_to-in_run}
 use Rattle.sample_windows.proofs.RunLemmas.{run_of-drop, of_run-drop, run_of-within}
 use Rattle.relay_num.specs.declared.Cx.{Cx}
-use Rattle.memory_volt.specs.Polarising.{VoltTake, take_of, voltage_of, voltage_now, low_run, polarising}
-use Rattle.memory_volt.specs.NumberedPolarising.{low_numbers, voltage_back, polarising_at}
+use Rattle.memory_volt.specs.Polarising.{VoltTake, voltage_of, voltage_now, low_run, polarising}
+use Rattle.memory_volt.specs.NumberedPolarising.{low_numbers, voltage_back, polarising_at, volt_take}
 
 module _ {X : Type 0} (number : X → ℕ) (ready low : List X → Bool) (plus : List X → Cx) where
-  -- what the memory takes at the newest sample
-  abbrev pub said_at : List X → VoltTake
-  said_at samples = take_of (plus samples) (low samples)
+  abbrev said_at : List X → VoltTake
+  said_at = volt_take number ready low plus
 
   no_run : run_of number ready [] ≡ 0
   unfolding run_of
@@ -53,7 +52,8 @@ module _ {X : Type 0} (number : X → ℕ) (ready low : List X → Bool) (plus :
       either true v = refl
       either false v = refl
 
-  pub polarising_is : (n hold : ℕ) (samples : List X) → ready [] ≡ false → Rises number samples →
+  -- the law
+  pub polarising_numbered : (n hold : ℕ) (samples : List X) → ready [] ≡ false → Rises number samples →
       polarising n hold (of_run number ready said_at samples) ≡ polarising_at number ready low plus n hold samples
-  polarising_is n hold samples never r =
+  polarising_numbered n hold samples never r =
       rw (low_numbers_are samples, voltage_back_is 0 samples never r, voltage_back_is (low_run (of_run number ready said_at samples) + n) samples never r) refl

@@ -1,3 +1,3 @@
 pub mod Polarising
 pub mod NumberedPolarising
-pub mod Held
+pub mod KeptMemory

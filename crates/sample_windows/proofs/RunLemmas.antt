@@ -1,6 +1,6 @@
 -- What is said at the samples of a run, which is what a part has taken since it was last cleared.
 use Rattle.std.proofs.Common.{drop, take, one-add, ◌≡◌, ◌≢◌, ℕ, zero, suc, ◌+◌, ◌-◌, ◌<◌, ◌≤◌, Bool, true, false, leb, ◌&&◌, refl, sym, ap, ◌∙◌, arith, List, [], ◌∷◌, inl, inr}
-use Rattle.std.proofs.lemmas.Bool.{cases_Bool, cases_eq, eq-eqb, ne_eqb, and_left}
+use Rattle.std.proofs.lemmas.Bool.{cases_Bool, cases_eq, eq-eqb, ne_eqb, and_left, false≢true}
 use Rattle.std.specs.List.{prefix_len}
 use Rattle.std.proofs.lemmas.List.{drop-take, length-take}
 use Rattle.std.proofs.lemmas.List.Sums.{prefix_len-le-length}
@@ -47,6 +47,20 @@ module _ {X : Type 0} (number : X → ℕ) where
     unfolding run_of at_each
     of_run-none [] e = refl
     of_run-none (x ∷ older) e = rw e refl
+
+    -- where nothing is ready after a gap, a ready sample goes on with what was taken before
+    pub of_run-ready : ((x y : X) (older : List X) → Rises number (x ∷ y ∷ older) → number x ≢ number y + 1 → ready (x ∷ y ∷ older) ≡ false) →
+        (x : X) (older : List X) → Rises number (x ∷ older) → ready (x ∷ older) ≡ true →
+        of_run number ready said (x ∷ older) ≡ said (x ∷ older) ∷ of_run number ready said older
+    unfolding run_of at_each
+    of_run-ready breaks x [] r e = elim (cases_eq (number x) 1) [
+      | inl next ↦ of_run-next x [] e next
+      | inr gap ↦ of_run-gap x [] e gap
+    ]
+    of_run-ready breaks x (y ∷ older) r e = elim (cases_eq (number x) (number y + 1)) [
+      | inl next ↦ of_run-next x (y ∷ older) e next
+      | inr gap ↦ absurd (false≢true (sym (breaks x y older r gap) ∙ e))
+    ]
 
     -- the run some samples back
     pub of_run-drop : (k : ℕ) (samples : List X) → k < run_of number ready samples →

@@ -6,7 +6,7 @@ use Rattle.std.proofs.lemmas.Bool.Decides.{nat_tests}
 use Rattle.sample_windows.specs.Below.{least_below}
 use Rattle.sample_windows.proofs.BelowLemmas.{any_below-least, least_below_more, least_below_none}
 use Rattle.supervise.specs.Fusing.{FuseTake, suspect_now, counts_as_blown}
-use Rattle.supervise.specs.Fuses.{suspect_back}
+use Rattle.supervise.specs.KeptFuse.{suspect_back}
 
 pub suspect_back-none : (hold : ℕ) → hold - suspect_back hold [] ≡ 0
 unfolding suspect_back

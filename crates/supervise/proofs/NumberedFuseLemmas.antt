@@ -63,5 +63,5 @@ module _ {X : Type 0} (number : X → ℕ) (ready u2_high i2_low : List X → Bo
 
     -- the law
     pub is_blown_numbered : (s : FuseSettings) (rate : ℕ) →
-        is_blown_at number ready u2_high i2_low s rate past ≡ is_blown s rate (taken past)
-    is_blown_numbered s rate = blown_is (samples rate s.hold_ms)
+        is_blown s rate (taken past) ≡ is_blown_at number ready u2_high i2_low s rate past
+    is_blown_numbered s rate = sym (blown_is (samples rate s.hold_ms))

@@ -1,5 +1,5 @@
 pub mod Fusing
-pub mod Fuses
+pub mod KeptFuse
 pub mod NumberedFuse
 pub mod Load
 pub mod Current

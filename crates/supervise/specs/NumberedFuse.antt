@@ -1,11 +1,11 @@
 -- Blocking by a blown fuse over numbered samples, the newest first, whose numbers may have gaps. Each fact is of the
 -- samples up to one of them; a fuse takes the samples of the run of ready ones that ends at the newest.
-use Rattle.std.specs.Prelude.{ℕ, suc, ◌-◌, Bool, ◌&&◌, List}
+use Rattle.std.specs.Prelude.{ℕ, ◌≡◌, suc, ◌-◌, Bool, false, ◌&&◌, List, []}
 use Rattle.sample_windows.specs.Below.{any_below}
-use Rattle.sample_windows.specs.Numbered.{newest_number, up_to, held_for}
+use Rattle.sample_windows.specs.Numbered.{newest_number, up_to, Rises, held_for, of_run}
 use Rattle.relay_settings.specs.declared.types.FuseSettings.{FuseSettings}
 use Rattle.relay_settings.specs.Samples.{samples}
-use Rattle.supervise.specs.Fusing.{FuseTake, take_of}
+use Rattle.supervise.specs.Fusing.{FuseTake, take_of, is_blown}
 
 module _ {X : Type 0} (number : X → ℕ) (ready u2_high i2_low : List X → Bool) where
   abbrev pub is_suspect_at : List X → Bool
@@ -26,3 +26,12 @@ module _ {X : Type 0} (number : X → ℕ) (ready u2_high i2_low : List X → Bo
   -- what a fuse takes at the newest sample
   abbrev pub fuse_take : List X → FuseTake
   fuse_take past = take_of (u2_high past) (i2_low past)
+
+-- The law: a fuse that takes each ready sample and is cleared at any other answers the rule over numbers. Of no
+-- samples, none is ready.
+abbrev pub BlowsByNumber : Type 0 → Type 0
+BlowsByNumber X =
+    (number : X → ℕ) (ready u2_high i2_low : List X → Bool) (s : FuseSettings) (rate : ℕ) (past : List X) →
+    ready [] ≡ false → Rises number past →
+    is_blown s rate (of_run number ready (fuse_take number ready u2_high i2_low) past)
+    ≡ is_blown_at number ready u2_high i2_low s rate past

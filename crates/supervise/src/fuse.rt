@@ -22,7 +22,7 @@ impl Fuse {
     ghost use Rattle.relay_settings.specs.declared.types.FuseSettings.{FuseSettings};
     ghost use Rattle.relay_settings.specs.Ranges.{IsFuse};
     ghost use Rattle.supervise.specs.Fusing.{FuseTake, take_of, is_blown};
-    ghost use Rattle.supervise.specs.Fuses.{StandsFor};
+    ghost use Rattle.supervise.specs.KeptFuse.{StandsFor};
 
     /// A fuse with these settings that has taken nothing. `rate` is 4800 or 4000 samples a second.
     pub fn new(s: &FuseSettings, rate: u32) -> Fuse

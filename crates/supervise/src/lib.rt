@@ -7,14 +7,19 @@
 //! numbers that may have gaps. It stands on `apparent_impedance` for the impedance as a fraction, on
 //! `loop_impedance` for the order of phases and loops, on `relay_settings` for the settings, on
 //! `sample_windows` for windows over takes, and on `relay_num` for complex numbers; it takes no memory.
+//!
+//! The law of the fuse over numbers is `show_blows_by_number`; proofs cite
+//! `NumberedFuseLemmas.is_blown_numbered`. Its premises: none is ready of no samples, and the numbers rise.
 #![tactic(auto)]
 
 mod current;
 mod fuse;
+mod laws;
 mod load;
 #[cfg(test)]
 mod tests;
 
 pub use current::current_allowed;
 pub use fuse::Fuse;
+pub use laws::show_blows_by_number;
 pub use load::load_blocks;

@@ -77,5 +77,5 @@ module _ {X : Type 0} (number : X → ℕ) (ready unbalanced : List X → Bool) 
 
     -- the law
     pub is_swing_numbered : (s : SwingSettings) (rate : ℕ) →
-        is_swing_at number ready unbalanced place s rate past ≡ is_swing s rate (taken past)
-    is_swing_numbered s rate = blocks_is (samples rate s.pass_ms) (samples rate s.max_ms)
+        is_swing s rate (taken past) ≡ is_swing_at number ready unbalanced place s rate past
+    is_swing_numbered s rate = sym (blocks_is (samples rate s.pass_ms) (samples rate s.max_ms))

@@ -8,7 +8,7 @@ use Rattle.sample_windows.proofs.WindowLemmas.{each_of_last-run}
 use Rattle.sample_windows.proofs.BelowLemmas.{greatest_below_more, greatest_below_first}
 use Rattle.relay_settings.specs.declared.types.SwingSettings.{SwingSettings}
 use Rattle.swing_block.specs.Swinging.{SwingTake, is_between, is_within, is_declared, run, was_declared, first_declared}
-use Rattle.swing_block.specs.Swings.{StandsFor, between_run}
+use Rattle.swing_block.specs.KeptSwing.{StandsFor, between_run}
 use Rattle.swing_block.specs.declared.swing.Swing.{Swing}
 
 some_is : (b : Bool) (m n : ℕ) → Some m ≡ (if b then Some n else None) → (b ≡ true) × (m ≡ n)

@@ -1,4 +1,4 @@
 pub mod Blinders
 pub mod Swinging
-pub mod Swings
+pub mod KeptSwing
 pub mod NumberedSwing

@@ -8,12 +8,17 @@
 //! `specs/NumberedSwing.antt` over sample numbers that may have gaps. It stands on `apparent_impedance` for
 //! the impedance as a fraction, on `relay_settings` for blinders and times, on `sample_windows` for windows
 //! and runs, and on `relay_num` for complex numbers; it takes no memory.
+//!
+//! The law over numbers is `show_swings_by_number`; proofs cite `NumberedSwingLemmas.is_swing_numbered`. Its
+//! premises: none is ready of no samples, and the numbers rise.
 #![tactic(auto)]
 
 mod blinders;
+mod laws;
 mod swing;
 #[cfg(test)]
 mod tests;
 
 pub use blinders::{SwingPlace, swing_place, unbalanced};
+pub use laws::show_swings_by_number;
 pub use swing::Swing;

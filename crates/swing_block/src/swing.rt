@@ -26,7 +26,7 @@ impl Swing {
     ghost use Rattle.relay_settings.specs.Ranges.{IsSwing};
     ghost use Rattle.relay_settings.specs.Samples.{samples};
     ghost use Rattle.swing_block.specs.Swinging.{SwingTake, take_of, was_declared, first_declared, is_swing};
-    ghost use Rattle.swing_block.specs.Swings.{StandsFor};
+    ghost use Rattle.swing_block.specs.KeptSwing.{StandsFor};
 
     /// A swing with these settings that has taken nothing. `rate` is 4800 or 4000 samples a second.
     pub fn new(s: &SwingSettings, rate: u32) -> Swing

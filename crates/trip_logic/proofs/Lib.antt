@@ -1,4 +1,4 @@
 pub mod OlderLemmas
 pub mod SealLemmas
-pub mod HeldLemmas
-pub mod SaidLemmas
+pub mod KeptTripLemmas
+pub mod NumberedTripLemmas

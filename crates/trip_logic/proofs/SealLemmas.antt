@@ -6,7 +6,7 @@ use Rattle.sample_windows.specs.Numbered.{newest_number, Rises}
 use Rattle.sample_windows.proofs.BelowLemmas.{any_below_from, any_below_found, any_below_none}
 use Rattle.trip_logic.specs.Seal.{ends, has_ended, stands}
 use Rattle.trip_logic.specs.Takes.{TripTake, number_of, operates_now, dead_now, is_on}
-use Rattle.trip_logic.specs.Held.{last_place}
+use Rattle.trip_logic.specs.KeptTrip.{last_place}
 use Rattle.trip_logic.proofs.OlderLemmas.{number_le}
 
 abbrev pub over : ℕ → ℕ → ℕ → List TripTake → Bool

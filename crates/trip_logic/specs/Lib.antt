@@ -1,3 +1,4 @@
 pub mod Seal
 pub mod Takes
-pub mod Held
+pub mod NumberedTrip
+pub mod KeptTrip

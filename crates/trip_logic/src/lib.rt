@@ -6,11 +6,17 @@
 //! `specs/Seal.antt` says it over the whole past; here stand the number of the last operation, a bit and a
 //! count. A gap in the numbers ends no trip. It stands on `sample_windows` for the windows over sample numbers
 //! and the count of a run, and takes no memory.
+//!
+//! The laws over numbers, `specs/NumberedTrip.antt`, are `show_trips_by_number`; proofs cite `NumberedTripLemmas`:
+//! `is_on_numbered` and `state_numbered` where of no samples no zone operates and the line isn't dead, and
+//! `follows_numbered` where numbers rise and the line is dead at no sample that follows a gap.
 #![tactic(auto)]
 
+mod laws;
 #[cfg(test)]
 mod tests;
 
+pub use laws::show_trips_by_number;
 use sample_windows::run_after;
 
 /// The trip after a take, and whether it has changed since the take before; before the first it is off.
@@ -39,7 +45,7 @@ pub struct Trip {
 impl Trip {
     ghost use Rattle.std.specs.Prelude.{ℕ, ◌≡◌, List, [], ◌∷◌};
     ghost use Rattle.trip_logic.specs.Takes.{TripTake, take_of, Follows, is_on, state_of};
-    ghost use Rattle.trip_logic.specs.Held.{StandsFor};
+    ghost use Rattle.trip_logic.specs.KeptTrip.{StandsFor};
 
     /// A trip that is off and has taken nothing. It stands for at least `min` samples after its last operation,
     /// and ends once the line has been dead for `open_run` samples, which is above 0 in every setting.

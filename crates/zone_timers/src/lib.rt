@@ -6,6 +6,9 @@
 //! part. Delays are in samples, and one sample is one take. `specs/Operate.antt` says it over the whole list
 //! of takes, `specs/NumberedOperate.antt` over sample numbers that may have gaps. It stands on
 //! `sample_windows` for the windows, on `loop_impedance` for the order of the loops, and takes no memory.
+//!
+//! The law over numbers is `show_operates_by_number`; proofs cite `OperateLemmas.operates_numbered`. Its premises:
+//! no loop is inside of no samples, nor at a sample that follows a gap, and the numbers rise.
 #![tactic(auto)]
 
 ghost use Rattle.std.specs.Prelude.{◌≤◌, All};

@@ -1,9 +1,13 @@
 use Rattle.std.proofs.Common.{◌≡◌, ◌∙◌, ap, refl, not, true, false, Bool, ◌∷◌, ◌++◌, []}
 use Rattle.std.specs.Bool.{then_some}
+use Rattle.std.specs.Prelude.{nat_lt}
+use Rattle.std.specs.Option.{option_flatten}
+use Rattle.std.proofs.Common.{sym, subst, length}
 use Rattle.circular_buffer.specs.Buffer.{Buffer, buffer, keep_last}
 use Rattle.relay_num.specs.declared.Cx.{Cx}
 use Rattle.memory_volt.specs.Polarising.{VoltTake, take_of, voltage_of}
 use Rattle.memory_volt.proofs.CycleLemmas.{cycle_next, cycle_before_is}
+use Rattle.memory_volt.proofs.SizeLemmas.{IsSmall, taken_small, pushed_small, oldest_small, remembered_small}
 use Rattle.memory_volt.proofs.MemoryLemmas.{remembered_is, present_is, run_next}
 use Rattle.memory_volt.proofs.MemoryVolt.note.Goals as goal
 use Rattle.memory_volt.proofs.MemoryVolt.note.Goals.{then-low, else-low}
@@ -27,5 +31,22 @@ returns-clause-after g c n hold takes stands =
             (cycle_before_is n takes _ _ _ stands.voltages c.push.ensures.oldest c.flatten-cycle_before.ensures)
             w.remembered-self.ensures.over w.remembered-self.ensures.fresh w.remembered-self.ensures.kept
         | else-low w ↦ w.self-is ∙ voltage ∙ present_is n hold takes c.args.self.now stands t w.if-low.false
+      ];
+    }
+
+pub returns-clause-small : goal.returns-clause-small
+returns-clause-small g c bound holds plus_small =
+    let old = c.args.self.now in
+    let voltage : IsSmall bound c.then_some-voltage.result =
+    subst (IsSmall bound) (sym c.then_some-voltage.ensures) (taken_small bound (not c.args.low) c.args.plus plus_small) in
+    let before : IsSmall bound c.flatten-cycle_before.result =
+    subst (IsSmall bound) (sym (c.flatten-cycle_before.ensures ∙ ap option_flatten c.push.ensures.oldest))
+    (oldest_small bound old.voltages.items (nat_lt (length old.voltages.items) old.voltages.capacity) holds.voltages) in
+    record {
+      voltages = rw c.push.ensures.items (pushed_small bound old.voltages.capacity old.voltages.items c.then_some-voltage.result holds.voltages voltage);
+      frozen = elim c.if-low.branch [
+        | then-low w ↦ subst (IsSmall bound) (sym w.self-is) (remembered_small bound old.run old.hold _ _ _ before holds.frozen
+            w.remembered-self.ensures.over w.remembered-self.ensures.fresh w.remembered-self.ensures.kept)
+        | else-low w ↦ subst (IsSmall bound) (sym w.self-is) voltage
       ];
     }

@@ -1,5 +1,5 @@
 use Rattle.std.proofs.Common.{ap, sym, ◌∙◌, not, ◌&&◌}
-use Rattle.trip_logic.proofs.HeldLemmas.{held_is_on}
+use Rattle.trip_logic.proofs.KeptTripLemmas.{held_is_on}
 use Rattle.trip_logic.proofs.Trip.is_on.Goals as goal
 
 pub returns-then-is_some : goal.returns-then-is_some

@@ -1,4 +1,4 @@
-use Rattle.trip_logic.proofs.HeldLemmas.{holds_nothing}
+use Rattle.trip_logic.proofs.KeptTripLemmas.{holds_nothing}
 use Rattle.trip_logic.proofs.Trip.new.Goals as goal
 
 pub returns : goal.returns

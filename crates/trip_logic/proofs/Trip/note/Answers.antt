@@ -1,6 +1,6 @@
 use Rattle.std.proofs.Common.{rules}
 use Rattle.trip_logic.specs.Takes.{take_of}
-use Rattle.trip_logic.proofs.HeldLemmas.{operated_next, none_next, idle_next}
+use Rattle.trip_logic.proofs.KeptTripLemmas.{operated_next, none_next, idle_next}
 use Rattle.trip_logic.proofs.Trip.note.Goals as goal
 
 pub returns-then-operated : goal.returns-then-operated

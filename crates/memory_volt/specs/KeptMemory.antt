@@ -1,8 +1,10 @@
 -- The takes that a memory stands for, the newest first: it holds the voltages of the last cycle and one more, how many
 -- takes in a row have been low, and what polarises.
-use Rattle.std.specs.Prelude.{ℕ, ◌≡◌, ◌+◌, min, List, Option, map, take, reverse}
+use Rattle.std.specs.Prelude.{ℕ, ◌≡◌, ◌+◌, min, List, Option, map, take, reverse, All}
+use Rattle.std.specs.Option.{ForSome}
 use Rattle.circular_buffer.specs.Buffer.{buffer}
 use Rattle.relay_num.specs.declared.Cx.{Cx}
+use Rattle.relay_num.specs.Numbers.{IsBelow}
 use Rattle.memory_volt.specs.Polarising.{VoltTake, voltage_of, low_run, polarising}
 use Rattle.memory_volt.specs.declared.MemoryVolt.{MemoryVolt}
 
@@ -16,3 +18,8 @@ pub record StandsFor (n hold : ℕ) (takes : List VoltTake) (memory : MemoryVolt
   pub same_hold : memory.hold ≡ hold
   pub run : memory.run ≡ min (low_run takes) hold
   pub frozen : memory.frozen ≡ polarising n hold takes
+
+-- each voltage that the memory holds is below `bound` in size
+pub record HoldsBelow (bound : ℕ) (memory : MemoryVolt) : Type 0 where
+  pub voltages : All (λ v. ForSome v (λ p. IsBelow p bound)) memory.voltages.items
+  pub frozen : ForSome memory.frozen (λ p. IsBelow p bound)

@@ -7,7 +7,7 @@ use Rattle.sample_windows.specs.Below.{any_below}
 use Rattle.sample_windows.specs.Numbered.{newest_number, held_for, run_of}
 use Rattle.sample_windows.proofs.NumberedLemmas.{held_for-run}
 use Rattle.trip_logic.specs.Takes.{TripTake, number_of, dead_now, Follows, is_on}
-use Rattle.trip_logic.specs.Held.{last_place, StandsFor}
+use Rattle.trip_logic.specs.KeptTrip.{last_place, StandsFor}
 use Rattle.trip_logic.specs.declared.Trip.{Trip}
 use Rattle.trip_logic.proofs.OlderLemmas.{rises_next, run_next, number_le_newest}
 use Rattle.trip_logic.proofs.SealLemmas.{over, is_on_none, is_on_is, last_found, none_found}
