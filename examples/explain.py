@@ -113,8 +113,8 @@ def agrees(line, event):
 
 
 def operating(line, number):
-    """The zones with `trip` and loops that operate, as text."""
-    return [f"zone {z} {rules.LOOPS[lp]}" for z, zone in enumerate(line.line["zones"], 1) if zone["trip"]
+    """The zones with `trip` and loops that operate, each as (number of the zone, zone, loop)."""
+    return [(z, zone, lp) for z, zone in enumerate(line.line["zones"], 1) if zone["trip"]
             for lp in range(6) if line.operates_at(number, zone, lp)]
 
 
@@ -124,7 +124,12 @@ def last_number(line, event, holds):
 
 
 def trip_lines(line, event):
-    yield "operating zones that trip: " + (", ".join(operating(line, event.number)) or "none")
+    found = operating(line, event.number)
+    yield "operating zones that trip: " + (", ".join(f"zone {z} {rules.LOOPS[lp]}" for z, _, lp in found) or "none")
+    for lp in sorted({lp for _, _, lp in found}):
+        yield from loop_lines(line, line.samples[event.number], lp)
+    for zone, lp in ((zone, lp) for _, zone, lp in found):
+        yield reach_line(zone, line.part(zone, lp))
 
 
 def reset_lines(line, event):
