@@ -1,6 +1,10 @@
 pub mod PieceLoops
-pub mod OneRecord
-pub mod Steps
-pub mod RecordBytes
+pub mod Taking
+pub mod Handing
+pub mod Asking
+pub mod PcapRecords
+pub mod PcapHeader
 pub mod Beginning
+pub mod Stepping
+pub mod RecordBytes
 pub mod ReadsBack

@@ -1,7 +1,8 @@
+//! The bytes of a capture that were read ahead, in one block of memory.
 ghost use Rattle.std.specs.Prelude.{◌≡◌, ◌+◌, ◌-◌, ◌^◌, ◌≤◌, ◌<◌, ◌++◌, [], length, drop, take, vec_len, vec_capacity, IsTrue, true, false, IfOk, OnOk, OnErr, is_ok};
-ghost use Rattle.room_io.specs.Room.{IsReadyIn, OnlyAt, StaysOpen, HasCause};
+ghost use Rattle.room_io.specs.Room.{IsReadyIn, Rose};
 ghost use Rattle.room_io.specs.declared.room.Slot.TheVariants.{Capture};
-ghost use Rattle.capture_feed.specs.Passes.{Passes, BreaksOff};
+ghost use Rattle.capture_feed.specs.Reads.{OnlyReads, Passes, BreaksOff};
 
 use relay_num::NoMemory;
 use room_io::{Fault, Room, Slot};
@@ -57,10 +58,9 @@ fn read_until<R: Room>(room: &mut R, bytes: &mut Vec<u8>, need: usize) -> Result
         (R.state room.new).capture.bytes ≡ []) }
     ensures short { OnErr result (vec_len bytes.new < need) }
     ensures capacity { 65536 ≤ vec_capacity bytes.new }
-    ensures stays { StaysOpen Capture (R.state room.old) (R.state room.new) }
-    ensures cause { HasCause (R.state room.old).capture.faults
-        (R.state room.new).capture.faults result }
-    ensures only { OnlyAt Capture (R.state room.old) (R.state room.new) }
+    ensures reads { OnlyReads (R.state room.old) (R.state room.new) }
+    ensures failed { OnErr result (Rose (R.state room.old).capture.faults
+        (R.state room.new).capture.faults) }
 {
     let mut piece = [0u8; 4096];
     while bytes.len() < need {
@@ -82,10 +82,9 @@ fn pass_over<R: Room>(room: &mut R, count: u64) -> Result<bool, Fault>
         length (R.state room.old).capture.bytes < count) }
     ensures broken { OnErr result (IsTrue (R.state room.old).tells →
         BreaksOff count (R.state room.old).capture.bytes (R.state room.new).capture.bytes) }
-    ensures stays { StaysOpen Capture (R.state room.old) (R.state room.new) }
-    ensures cause { HasCause (R.state room.old).capture.faults
-        (R.state room.new).capture.faults result }
-    ensures only { OnlyAt Capture (R.state room.old) (R.state room.new) }
+    ensures reads { OnlyReads (R.state room.old) (R.state room.new) }
+    ensures failed { OnErr result (Rose (R.state room.old).capture.faults
+        (R.state room.new).capture.faults) }
 {
     let mut piece = [0u8; 4096];
     let mut left = count;
@@ -145,10 +144,9 @@ impl Block {
         ensures end { OnOk result (IsTrue (R.state room.old).tells →
             length (pending self.new) < need → (R.state room.new).capture.bytes ≡ []) }
         ensures short { OnErr result (length (pending self.new) < need) }
-        ensures stays { StaysOpen Capture (R.state room.old) (R.state room.new) }
-        ensures cause { HasCause (R.state room.old).capture.faults
-            (R.state room.new).capture.faults result }
-        ensures only { OnlyAt Capture (R.state room.old) (R.state room.new) }
+        ensures reads { OnlyReads (R.state room.old) (R.state room.new) }
+        ensures failed { OnErr result (Rose (R.state room.old).capture.faults
+            (R.state room.new).capture.faults) }
     {
         if self.bytes.len() - self.at >= need {
             return Ok(());
@@ -170,10 +168,9 @@ impl Block {
         ensures broken { OnErr result (IsTrue (R.state room.old).tells →
             BreaksOff count (pending self.old ++ (R.state room.old).capture.bytes)
             (R.state room.new).capture.bytes) }
-        ensures stays { StaysOpen Capture (R.state room.old) (R.state room.new) }
-        ensures cause { HasCause (R.state room.old).capture.faults
-            (R.state room.new).capture.faults result }
-        ensures only { OnlyAt Capture (R.state room.old) (R.state room.new) }
+        ensures reads { OnlyReads (R.state room.old) (R.state room.new) }
+        ensures failed { OnErr result (Rose (R.state room.old).capture.faults
+            (R.state room.new).capture.faults) }
     {
         let held = self.bytes.len() - self.at;
         if count <= held as u64 {

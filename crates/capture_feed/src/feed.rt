@@ -1,22 +1,19 @@
-ghost use Rattle.std.specs.Prelude.{◌≡◌, ◌≢◌, ◌⊎◌, ℕ, ◌+◌, ◌^◌, ◌≤◌, ◌<◌, ◌↔◌, ◌++◌, [], length, take, min, is_some, drop, vec_len, slice_range, Some, IsSome, IsTrue, true, false, IfOk, IfErr, IfSome, IfNone, OnSome, OnOk, OnErr, IsErrOf, IsOk, is_ok, None};
+//! The records of a capture, one after another.
+ghost use Rattle.std.specs.Prelude.{◌≡◌, ◌≢◌, ℕ, ◌+◌, ◌^◌, ◌≤◌, ◌<◌, ◌⊎◌, length, take, drop, min, is_some, vec_len, IsSome, IsTrue, false, IfOk, IfErr, IfSome, OnSome, OnOk, OnErr, IsErrOf, is_ok};
 ghost use Rattle.std.specs.Borrow.{sem};
 ghost use Rattle.std.specs.Io.BufRead.{Rests};
-ghost use Rattle.room_io.specs.Room.{at, IsReadyIn, OnlyAt, StaysOpen, Rose};
+ghost use Rattle.room_io.specs.Room.{IsReadyIn, Rose};
 ghost use Rattle.room_io.specs.declared.room.Slot.TheVariants.{Capture};
-ghost use Rattle.capture_feed.specs.Capture.{records, records_from, order, stopped, Whole, Damaged, Cut, TooLong};
-ghost use Rattle.capture_feed.specs.Passes.{BreaksOff};
-ghost use Rattle.capture_feed.specs.Begins.{Begins};
+ghost use Rattle.capture_feed.specs.Reads.{OnlyReads, BreaksOff};
 ghost use Rattle.capture_feed.specs.Block.{pending};
-ghost use Rattle.capture_feed.specs.Gives.{Gives, HoldsNone};
 
 use crate::block::Block;
-use crate::format::{HEADER, MOST_CAPTURED, RECORD_HEAD, captured_at, order_of};
+use crate::pcap::{HEADER, MOST_LENT, next_record, order_of};
+use crate::piece::Place;
+use crate::stop::FeedStop;
 use relay_num::NoMemory;
-use room_io::{Room, Slot};
+use room_io::Room;
 use std::alloc::Global;
-
-/// The most captured bytes of a record that are lent.
-const MOST_LENT: u32 = 2048;
 
 /// One record of a capture.
 #[derive(Clone, Copy)]
@@ -25,21 +22,6 @@ pub struct Rec<'a> {
     pub bytes: &'a [u8],
     /// The captured length in bytes, 262,144 at most.
     pub captured: u32,
-}
-
-/// Why no record comes.
-#[derive(Clone, Copy, Debug, PartialEq, Eq)]
-pub enum FeedStop {
-    /// A read of the capture failed.
-    Fault,
-    /// The input begins with no pcap header of version 2.4 and Ethernet.
-    NotCapture,
-    /// The input ended within a record.
-    Cut,
-    /// A record header tells this captured length, which is above 262,144 bytes.
-    Damaged { length: u32 },
-    /// The header and the records so far make as many bytes as the feed allows.
-    TooLong,
 }
 
 /// The records of the room's capture, one after another.
@@ -57,16 +39,14 @@ pub struct Feed {
 }
 
 impl Feed {
-    ghost use Rattle.capture_feed.specs.Found.{found};
+    ghost use Rattle.capture_feed.specs.Left.{found, is_live, taken_by, limit_of, IsFresh, Begins, HasNoHeader, HandsOut, AsksNext};
     ghost use Rattle.capture_feed.specs.contracts.feed.Feed.{the_row};
 
-    /// A feed that goes on to a record only while the header and the records so far make fewer than
-    /// `limit` bytes, which is from 24 to 2^40. It takes one block of 64 KiB, and no later call
-    /// takes memory.
+    /// A feed that goes on only while fewer than `limit` bytes were taken, which is from 24 to 2^40.
+    /// It takes one block of 64 KiB, and no later call takes memory.
     pub fn new(alloc: Global, limit: u64) -> Result<Feed, NoMemory>
         requires { (24 ≤ limit) × (limit ≤ 2 ^ 40) }
-        ensures { IfOk result (λ feed. (feed.is_live ≡ false) ×
-            ((pending feed.block ≡ []) × (feed.limit ≡ limit))) }
+        ensures { IfOk result (λ feed. IsFresh feed × (limit_of feed ≡ limit)) }
     {
         match Block::new(alloc) {
             Ok(block) => Ok(Feed {
@@ -82,14 +62,14 @@ impl Feed {
 
     /// Whether `next` may be called.
     pub fn live(&self) -> bool
-        ensures { result ≡ self.now.is_live }
+        ensures { result ≡ is_live self.now }
     {
         self.is_live
     }
 
     /// How many bytes the header and the records so far make; 24 after a successful `begin`.
     pub fn taken(&self) -> u64
-        ensures { result ≡ self.now.taken }
+        ensures { result ≡ taken_by self.now }
     {
         self.taken
     }
@@ -99,33 +79,28 @@ impl Feed {
     /// `Fault`: a read failed before 24 bytes had come. `NotCapture`: the first 24 bytes, or all of
     /// a shorter input, are no header. There is no other error. After an error the feed isn't live.
     pub fn begin<R: Room>(&mut self, room: &mut R) -> Result<(), FeedStop>
-        requires fresh { pending self.old.block ≡ [] }
-        requires dead { self.old.is_live ≡ false }
+        requires fresh { IsFresh self.old }
         requires ready { IsReadyIn Capture (R.state room.old) }
-        ensures live { self.new.is_live ≡ is_ok result }
-        ensures kinds { IfErr result (λ stop.
-            (stop ≡ FeedStop.Fault) ⊎ (stop ≡ FeedStop.NotCapture)) }
-        ensures limit { self.new.limit ≡ self.old.limit }
-        ensures taken { OnOk result (self.new.taken ≡ 24) }
-        ensures ok { OnOk result (IsTrue (R.state room.old).tells →
-            records (R.state room.old).capture.bytes self.old.limit ≡
-            Some (found self.new (R.state room.new).capture.bytes)) }
-        ensures begun { OnOk result (IsTrue (R.state room.old).tells →
-            Begins self.new.is_big (R.state room.old).capture.bytes
-            (pending self.new.block ++ (R.state room.new).capture.bytes)) }
+        ensures live { is_live self.new ≡ is_ok result }
+        ensures kinds { IfErr result (λ stop. (stop ≡ FeedStop.Fault) ⊎ (stop ≡ FeedStop.NotCapture)) }
+        ensures limit { limit_of self.new ≡ limit_of self.old }
+        ensures taken { OnOk result (taken_by self.new ≤ 24) }
+        ensures begins { OnOk result (IsTrue (R.state room.old).tells →
+            Begins self.new (R.state room.old).capture.bytes (R.state room.new).capture.bytes) }
         ensures not_capture { IsErrOf result FeedStop.NotCapture → IsTrue (R.state room.old).tells →
-            records (R.state room.old).capture.bytes self.old.limit ≡ None }
-        ensures later { (R.state room.old).capture.faults ≤ (R.state room.new).capture.faults }
+            HasNoHeader (R.state room.old).capture.bytes (R.state room.new).capture.bytes }
         ensures rose { IsErrOf result FeedStop.Fault →
             Rose (R.state room.old).capture.faults (R.state room.new).capture.faults }
         ensures fault { IsErrOf result FeedStop.Fault → IsTrue (R.state room.old).tells →
             BreaksOff 24 (R.state room.old).capture.bytes (R.state room.new).capture.bytes }
-        ensures stays { StaysOpen Capture (R.state room.old) (R.state room.new) }
-        ensures only { OnlyAt Capture (R.state room.old) (R.state room.new) }
+        ensures reads { OnlyReads (R.state room.old) (R.state room.new) }
     {
         match self.block.fill(room, HEADER) {
             Ok(()) => {}
             Err(_) => return Err(FeedStop::Fault),
+        }
+        if self.block.held() < HEADER {
+            return Err(FeedStop::NotCapture);
         }
         match order_of(self.block.rest()) {
             Some(is_big) => {
@@ -139,134 +114,69 @@ impl Feed {
         }
     }
 
-    /// Takes the next record off what is left, and says where its bytes stand and how many there
-    /// are.
-    fn step<R: Room>(&mut self, room: &mut R) -> Result<Option<(usize, u32)>, FeedStop>
-        requires live { IsTrue self.old.is_live }
+    /// Takes pieces off what is left up to the next record, and says where its bytes stand and how
+    /// many there are.
+    fn step<R: Room>(&mut self, room: &mut R) -> Result<Option<Place>, FeedStop>
+        requires live { IsTrue (is_live self.old) }
         requires ready { IsReadyIn Capture (R.state room.old) }
-        ensures live { IfOk result (λ got. self.new.is_live ≡ is_some got) }
-        ensures dead { OnErr result (self.new.is_live ≡ false) }
-        ensures limit { self.new.limit ≡ self.old.limit }
-        ensures order { self.new.is_big ≡ self.old.is_big }
-        ensures taken { IfOk result (λ got. IfSome got (λ at. (self.old.taken < self.old.limit) ×
-            (self.new.taken ≡ self.old.taken + (16 + at.1)))) }
-        ensures kept { OnErr result (self.new.taken ≡ self.old.taken) }
-        ensures kept_at_end { IfOk result (λ got. IfNone got (self.new.taken ≡ self.old.taken)) }
-        ensures fits { IfOk result (λ got. IfSome got (λ at.
-            at.0 + min at.1 2048 ≤ vec_len self.new.block.bytes)) }
-        ensures record { IfOk result (λ got. IfSome got (λ at. IsTrue (R.state room.old).tells →
-            Gives self.old.is_big self.old.limit self.old.taken
-            (take (min at.1 2048) (drop at.0 self.new.block.bytes.items)) at.1
-            (pending self.old.block ++ (R.state room.old).capture.bytes)
-            (pending self.new.block ++ (R.state room.new).capture.bytes))) }
-        ensures whole { IfOk result (λ got. IfNone got (IsTrue (R.state room.old).tells →
-            found self.old (R.state room.old).capture.bytes ≡ stopped Whole)) }
-        ensures cut { IsErrOf result FeedStop.Cut → IsTrue (R.state room.old).tells →
-            found self.old (R.state room.old).capture.bytes ≡ stopped Cut }
-        ensures damaged { IfErr result (λ stop. (length : ℕ) → stop ≡ FeedStop.Damaged length →
-            IsTrue (R.state room.old).tells →
-            found self.old (R.state room.old).capture.bytes ≡ stopped (Damaged length)) }
-        ensures too_long { IsErrOf result FeedStop.TooLong ↔ (self.old.limit ≤ self.old.taken) }
-        ensures unread { IsErrOf result FeedStop.TooLong → R.state room.new ≡ R.state room.old }
-        ensures no_header { IfErr result (λ stop. stop ≢ FeedStop.NotCapture) }
-        ensures later { (R.state room.old).capture.faults ≤ (R.state room.new).capture.faults }
-        ensures rose { IsErrOf result FeedStop.Fault →
-            Rose (R.state room.old).capture.faults (R.state room.new).capture.faults }
-        ensures fault { IsErrOf result FeedStop.Fault → IsTrue (R.state room.old).tells →
-            HoldsNone self.old.is_big self.old.limit self.old.taken
-            (pending self.old.block ++ (R.state room.old).capture.bytes) (R.state room.new).capture.bytes }
-        ensures stays { StaysOpen Capture (R.state room.old) (R.state room.new) }
-        ensures only { OnlyAt Capture (R.state room.old) (R.state room.new) }
+        ensures live { IfOk result (λ got. is_live self.new ≡ is_some got) }
+        ensures dead { OnErr result (is_live self.new ≡ false) }
+        ensures limit { limit_of self.new ≡ limit_of self.old }
+        ensures below { IfOk result (λ got. OnSome got (taken_by self.old < limit_of self.old)) }
+        ensures fits { IfOk result (λ got. IfSome got (λ place.
+            place.at + min place.captured 2048 ≤ vec_len self.new.block.bytes)) }
+        ensures hands { IfOk result (λ got. IfSome got (λ place. HandsOut self.old self.new
+            (take (min place.captured 2048) (drop place.at self.new.block.bytes.items))
+            place.captured (R.state room.old) (R.state room.new))) }
+        ensures too_long { IsErrOf result FeedStop.TooLong → limit_of self.new ≤ taken_by self.new }
+        ensures asks { AsksNext self.old (R.state room.old) (R.state room.new) result }
     {
         self.is_live = false;
-        if self.taken >= self.limit {
-            return Err(FeedStop::TooLong);
-        }
-        match self.block.fill(room, RECORD_HEAD) {
-            Ok(()) => {}
-            Err(_) => return Err(FeedStop::Fault),
-        }
-        if self.block.held() == 0 {
-            return Ok(None);
-        }
-        if self.block.held() < RECORD_HEAD {
-            return Err(FeedStop::Cut);
-        }
-        let captured = captured_at(self.block.rest(), self.is_big);
-        if captured > MOST_CAPTURED {
-            return Err(FeedStop::Damaged { length: captured });
-        }
-        let kept = captured.min(MOST_LENT) as usize;
-        match self.block.fill(room, RECORD_HEAD + kept) {
-            Ok(()) => {}
-            Err(_) => return Err(FeedStop::Fault),
-        }
-        if self.block.held() < RECORD_HEAD + kept {
-            return Err(FeedStop::Cut);
-        }
-        let from = self.block.at + RECORD_HEAD;
-        let size = RECORD_HEAD as u64 + captured as u64;
-        match self.block.skip(room, size) {
-            Ok(true) => {
-                self.taken += size;
-                self.is_live = true;
-                Ok(Some((from, captured)))
+        while self.taken < self.limit {
+            match next_record(&mut self.block, self.is_big, room) {
+                Ok(got) => match got {
+                    Some(piece) => {
+                        self.taken += piece.size;
+                        if let Some(place) = piece.packet {
+                            self.is_live = true;
+                            return Ok(Some(place));
+                        }
+                    }
+                    None => return Ok(None),
+                },
+                Err(stop) => return Err(stop),
             }
-            Ok(false) => Err(FeedStop::Cut),
-            Err(_) => Err(FeedStop::Fault),
         }
+        Err(FeedStop::TooLong)
     }
 
     /// The next record, whose bytes are lent until the feed is used again; `None` where the input
     /// ended behind a whole record or the header.
     ///
     /// `Cut`: the input ended within a record. `Damaged`: a captured length is above 262,144.
-    /// `TooLong`: the header and the records so far make the limit or more; nothing is read then.
+    /// `TooLong`: what was taken makes the limit or more; where it does at the call, nothing is read.
     /// `Fault`: a read failed, and the bytes read so far hold no further whole record. `NotCapture`
     /// never comes.
     pub fn next<'f, R: Room>(&'f mut self, room: &mut R) -> Result<Option<Rec<'f>>, FeedStop>
-        requires live { IsTrue self.old.is_live }
+        requires live { IsTrue (is_live self.old) }
         requires ready { IsReadyIn Capture (R.state room.old) }
-        ensures* after { sem 𝓛 (Rests the_row self.entry (λ new.
-            ((new.limit ≡ self.old.limit) × (new.is_big ≡ self.old.is_big)) ×
-            ((IfOk result (λ got. new.is_live ≡ is_some got) × OnErr result (new.is_live ≡ false)) ×
-            ((IfOk result (λ got. IfNone got (new.taken ≡ self.old.taken)) ×
-            OnErr result (new.taken ≡ self.old.taken)) ×
-            IfOk result (λ got. IfSome got (λ rec.
-            (new.taken ≡ self.old.taken + (16 + rec.captured)) ×
-            (IsTrue (R.state room.old).tells →
-            Gives self.old.is_big self.old.limit self.old.taken rec.bytes.now rec.captured
-            (pending self.old.block ++ (R.state room.old).capture.bytes)
-            (pending new.block ++ (R.state room.new).capture.bytes)))))))) }
-        ensures below { IfOk result (λ got. OnSome got (self.old.taken < self.old.limit)) }
+        ensures* after { sem 𝓛 (Rests the_row self.entry (λ new. (limit_of new ≡ limit_of self.old) ×
+            ((IfOk result (λ got. is_live new ≡ is_some got) × OnErr result (is_live new ≡ false)) ×
+            ((IsErrOf result FeedStop.TooLong → limit_of new ≤ taken_by new) ×
+            IfOk result (λ got. IfSome got (λ rec. HandsOut self.old new rec.bytes.now rec.captured
+            (R.state room.old) (R.state room.new))))))) }
+        ensures below { IfOk result (λ got. OnSome got (taken_by self.old < limit_of self.old)) }
         ensures lent { IfOk result (λ got. IfSome got (λ rec.
             length rec.bytes.now ≡ min rec.captured 2048)) }
-        ensures whole { IfOk result (λ got. IfNone got (IsTrue (R.state room.old).tells →
-            found self.old (R.state room.old).capture.bytes ≡ stopped Whole)) }
-        ensures cut { IsErrOf result FeedStop.Cut → IsTrue (R.state room.old).tells →
-            found self.old (R.state room.old).capture.bytes ≡ stopped Cut }
-        ensures damaged { IfErr result (λ stop. (length : ℕ) → stop ≡ FeedStop.Damaged length →
-            IsTrue (R.state room.old).tells →
-            found self.old (R.state room.old).capture.bytes ≡ stopped (Damaged length)) }
-        ensures too_long { IsErrOf result FeedStop.TooLong ↔ (self.old.limit ≤ self.old.taken) }
-        ensures unread { IsErrOf result FeedStop.TooLong → R.state room.new ≡ R.state room.old }
-        ensures no_header { IfErr result (λ stop. stop ≢ FeedStop.NotCapture) }
-        ensures later { (R.state room.old).capture.faults ≤ (R.state room.new).capture.faults }
-        ensures rose { IsErrOf result FeedStop.Fault →
-            Rose (R.state room.old).capture.faults (R.state room.new).capture.faults }
-        ensures fault { IsErrOf result FeedStop.Fault → IsTrue (R.state room.old).tells →
-            HoldsNone self.old.is_big self.old.limit self.old.taken
-            (pending self.old.block ++ (R.state room.old).capture.bytes) (R.state room.new).capture.bytes }
-        ensures stays { StaysOpen Capture (R.state room.old) (R.state room.new) }
-        ensures only { OnlyAt Capture (R.state room.old) (R.state room.new) }
+        ensures asks { AsksNext self.old (R.state room.old) (R.state room.new) result }
     {
         match self.step(room) {
             Ok(got) => match got {
-                Some((from, captured)) => {
-                    let kept = captured.min(MOST_LENT) as usize;
+                Some(place) => {
+                    let kept = place.captured.min(MOST_LENT) as usize;
                     Ok(Some(Rec {
-                        bytes: &self.block.bytes[from..from + kept],
-                        captured,
+                        bytes: &self.block.bytes[place.at..place.at + kept],
+                        captured: place.captured,
                     }))
                 }
                 None => Ok(None),

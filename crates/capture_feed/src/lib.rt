@@ -10,12 +10,16 @@
 
 mod block;
 mod feed;
-mod format;
 mod lending;
+mod numbers;
+mod pcap;
+mod piece;
+mod stop;
 mod written;
 
-pub use feed::{Feed, FeedStop, Rec};
-pub use written::{put_header, put_record};
+pub use feed::{Feed, Rec};
+pub use stop::FeedStop;
+pub use written::{put_header, put_record, show_written_reads_back};
 
 #[cfg(test)]
 mod tests;

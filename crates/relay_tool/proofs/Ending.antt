@@ -4,7 +4,8 @@ use Rattle.std.specs.Prelude.{Option, None, Some, Result, Ok, Err, OnOk, OnErr, 
 use Rattle.room_io.specs.Room.{RoomState, SlotState, at, OnlyAt, Rose, IsUnopened, IsUnused, IsFile, IsOutput, AppendsPart}
 use Rattle.room_io.specs.declared.room.Slot.{Slot}
 use Rattle.room_io.specs.declared.room.Slot.TheVariants.{Settings, Capture, Goose, Log, Note, Answer}
-use Rattle.capture_feed.specs.Capture.{Records, Stop, Whole, Damaged, Cut, TooLong, records}
+use Rattle.capture_feed.specs.Records.{Records, Stop, Whole, Damaged, Cut, TooLong}
+use Rattle.capture_feed.specs.Captures.{records}
 use Rattle.relay_settings.specs.Settings.{PlainSettings}
 use Rattle.settings_read.specs.Walk.{refused as refusal}
 use Rattle.relay_tool.specs.Endings.{Ending, status_of, note_of, done, usage, refused, not_capture, cut, damaged, too_long, fault, no_memory}

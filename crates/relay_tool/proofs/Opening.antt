@@ -3,7 +3,7 @@ use Rattle.std.proofs.Common.{◌≡◌, inl, inr, ℕ, ◌≤◌, ◌<◌, Bool
 use Rattle.std.specs.Prelude.{Some, Err, unwrap_or, codes, nat_le}
 use Rattle.std.proofs.lemmas.List.{take_all}
 use Rattle.std.proofs.lemmas.Bool.Decides.{nat_tests}
-use Rattle.capture_feed.proofs.Steps.{either_way}
+use Rattle.capture_feed.proofs.Asking.{either_way}
 use Rattle.room_io.specs.Room.{RoomState, SlotState, OnlyAt, Rose, IsUnopened, content}
 use Rattle.room_io.proofs.Rooms.{tells-OnlyAt}
 use Rattle.room_io.specs.declared.room.Slot.{Slot}

@@ -4,12 +4,10 @@ use Rattle.std.specs.Prelude.{Option, None, Some, Result, Ok, Err, if◌then◌e
 use Rattle.room_io.specs.Room.{RoomState, SlotState, at, Rose, IsUnused}
 use Rattle.room_io.specs.declared.room.Slot.{Slot}
 use Rattle.room_io.specs.declared.room.Slot.TheVariants.{Settings, Capture, Goose, Log, Note, Answer}
-use Rattle.capture_feed.specs.Capture.{Records, records, records_from}
+use Rattle.capture_feed.specs.Captures.{records}
 use Rattle.capture_feed.specs.Written.{header_bytes}
-use Rattle.capture_feed.specs.Block.{pending}
-use Rattle.capture_feed.specs.Begins.{Begins}
+use Rattle.capture_feed.specs.Left.{found, Begins}
 use Rattle.capture_feed.specs.declared.feed.Feed.{Feed}
-use Rattle.capture_feed.proofs.Beginning.{records-begun}
 use Rattle.relay_settings.specs.Settings.{PlainSettings, plain_settings, plain_line, plain_lines}
 use Rattle.relay_settings.specs.declared.types.Settings.{Settings as SettingsRead}
 use Rattle.relay_settings.specs.declared.types.LineSettings.{LineSettings}
@@ -202,7 +200,7 @@ Replays-capture names {a} {b} d e settings unused reads by capture = ended (endi
     same = ap (λ cs. content_of cs names.capture) (sym (ap (λ (room : RoomState). room.contents) reads.only.is))
 
     why : (ending : Ending) → CaptureEnd names.capture b d ending → ReplayEnd names a d ending
-    why not_capture r = (unstarted, λ told. (settings, by told, ap (λ text. records text most_capture) same ∙ r (told_b told)))
+    why not_capture r = (unstarted, λ told. (settings, by told, ap (λ text. records text most_capture) same ∙ (r (told_b told)).records most_capture))
     why (fault slot) r = subst (λ (s : Slot). Rose (at a s).faults (at d s).faults × Stands names a d s) (sym r.0) (
       risen d Capture (staged-settings names unused reads) r.1,
       (inl (record { unstarted = unstarted; taken = λ told ready. let t = r.2 (told_b told) ready in (t.0, t.1, same ∙ t.2) }), λ told. (settings, by told)),
@@ -216,31 +214,33 @@ Replays-capture names {a} {b} d e settings unused reads by capture = ended (endi
     why no_memory r = absurd r
 
 -- what is known behind the capture's header: in a room that tells, the outputs are empty
-pub record Known (names : Names) (a e : RoomState) (settings : PlainSettings) (is_big : Bool) (behind : List ℕ) : Type 0 where
+pub record Known (names : Names) (a e : RoomState) (settings : PlainSettings) (feed : Feed) (left : List ℕ) : Type 0 where
   pub accepted : replayable (content_of a.contents names.settings) ≡ Ok settings
-  pub begun : Begins is_big (content_of a.contents names.capture) behind
+  pub begun : Begins feed (content_of a.contents names.capture) left
+  pub limit : feed.limit ≡ most_capture
   pub goose : e.goose.bytes ≡ []
   pub log : e.log.bytes ≡ []
 
 pub known : (names : Names) {a b d e : RoomState} {feed : Feed} {s : SettingsRead} {r : Result (Unit {0}) End} (settings : PlainSettings) → ReadsSettings names.settings a b (Ok s) →
     (IsTrue a.tells → replayable (content_of a.contents names.settings) ≡ Ok settings) → OpensCapture names.capture b d feed (Ok tt) → OpensOutputs names d e r → IsTrue a.tells →
-    Known names a e settings feed.is_big (pending feed.block ++ d.capture.bytes)
+    Known names a e settings feed d.capture.bytes
 known names {a} {b} {d} {e} {feed} settings reads by capture outputs told =
     let told_b : IsTrue b.tells = ap (λ (room : RoomState). room.tells) reads.only.is ∙ told in
     let told_d : IsTrue d.tells = ap (λ (room : RoomState). room.tells) capture.only.is ∙ told_b in
     record {
       accepted = by told;
-      begun = subst (λ cs. Begins feed.is_big (content_of cs names.capture) (pending feed.block ++ d.capture.bytes)) (ap (λ (room : RoomState). room.contents) reads.only.is) (capture.begun told_b);
+      begun = subst (λ cs. Begins feed (content_of cs names.capture) d.capture.bytes) (ap (λ (room : RoomState). room.contents) reads.only.is) (capture.begun told_b);
+      limit = capture.live.1;
       goose = (outputs.empty told_d).0;
       log = (outputs.empty told_d).1;
     }
 
--- the records of a capture, of which the header was taken
-abbrev pub found_in : Bool → List ℕ → Records
-found_in is_big behind = records_from is_big most_capture 24 behind
+-- the records of the capture that was begun
+all-of : {names : Names} {a e : RoomState} {settings : PlainSettings} {feed : Feed} {left : List ℕ} → (k : Known names a e settings feed left) → (more : List ℕ) → records (k.begun.prefix ++ more) most_capture ≡ Some (found feed more)
+all-of {names} {a} {e} {settings} {feed} k more = ap (λ n. records (k.begun.prefix ++ more) n) (sym k.limit) ∙ k.begun.all more
 
-replay-of : {names : Names} {a e : RoomState} {settings : PlainSettings} {is_big : Bool} {behind : List ℕ} → Known names a e settings is_big behind → IsReplay names a.contents settings (found_in is_big behind)
-replay-of k = record { accepted = k.accepted; capture = records-begun most_capture k.begun }
+replay-of : {names : Names} {a e : RoomState} {settings : PlainSettings} {feed : Feed} {left : List ℕ} → Known names a e settings feed left → IsReplay names a.contents settings (found feed left)
+replay-of {names} {a} {e} {settings} {feed} {left} k = record { accepted = k.accepted; capture = ap (λ xs. records xs most_capture) k.begun.is ∙ all-of k left }
 
 -- ---- the outputs
 
@@ -260,7 +260,7 @@ Replays-outputs names {a} {b} {d} {feed} e end settings unused reads by capture 
         let k = known names settings reads by capture outputs told in
         record {
           settings = settings;
-          found = found_in feed.is_big (pending feed.block ++ d.capture.bytes);
+          found = found feed d.capture.bytes;
           replay = replay-of k;
           reached = record { whole = 0; part = 0; written = record { goose = k.goose; log = k.log }; next = λ _ goose log. absurd (clashes closed goose log) };
         }
@@ -285,7 +285,7 @@ Replays-outputs names {a} {b} {d} {feed} e end settings unused reads by capture 
 pub record Opened (names : Names) (a e : RoomState) (settings : PlainSettings) (feed : Feed) : Type 0 where
   pub stage : Staged names a e
   pub start : IsStarted names e
-  pub known : IsTrue a.tells → Known names a e settings feed.is_big (pending feed.block ++ e.capture.bytes)
+  pub known : IsTrue a.tells → Known names a e settings feed e.capture.bytes
 
 pub opened : (names : Names) {a b d e : RoomState} {feed : Feed} {s : SettingsRead} (settings : PlainSettings) → IsUnused a → ReadsSettings names.settings a b (Ok s) →
     (IsTrue a.tells → replayable (content_of a.contents names.settings) ≡ Ok settings) → OpensCapture names.capture b d feed (Ok tt) → OpensOutputs names d e (Ok tt) → Opened names a e settings feed
@@ -299,7 +299,7 @@ opened names {a} {b} {d} {e} {feed} settings unused reads by capture outputs = r
     goose_ready = outputs.opened.1.0;
     log_ready = outputs.opened.1.1;
   };
-  known = λ told. subst (λ (slot : SlotState). Known names a e settings feed.is_big (pending feed.block ++ slot.bytes)) (sym (ap (λ (room : RoomState). room.capture) outputs.only)) (known names settings reads by capture outputs told);
+  known = λ told. subst (λ (slot : SlotState). Known names a e settings feed slot.bytes) (sym (ap (λ (room : RoomState). room.capture) outputs.only)) (known names settings reads by capture outputs told);
 }
 
 abbrev pub header_item : Item
@@ -310,13 +310,13 @@ written-all : {e h : RoomState} {ws : List Item} → e.goose.bytes ≡ [] → e.
 written-all {e} {h} {ws} goose log all = record { goose = all.goose ∙ ap (λ xs. xs ++ written Goose ws) goose; log = all.log ∙ ap (λ xs. xs ++ written Log ws) log }
 
 stopped-at : {names : Names} {a e : RoomState} {settings : PlainSettings} {feed : Feed} (h : RoomState) (slot : Slot) → Opened names a e settings feed →
-    (IsTrue e.tells → StopsAt slot (all_writes settings (found_in feed.is_big (pending feed.block ++ e.capture.bytes)).bodies) e h) → IsTrue a.tells → IsStopped slot names a h
+    (IsTrue e.tells → StopsAt slot (all_writes settings (found feed e.capture.bytes).bodies) e h) → IsTrue a.tells → IsStopped slot names a h
 stopped-at {names} {a} {e} {settings} {feed} h slot open_is stops told =
     let k = open_is.known told in
     let stop = stops (told_at open_is.stage told) in
     record {
       settings = settings;
-      found = found_in feed.is_big (pending feed.block ++ e.capture.bytes);
+      found = found feed e.capture.bytes;
       replay = replay-of k;
       reached = record { whole = stop.whole; part = stop.part; written = written-all k.goose k.log stop.appended; next = λ _ _ _. stop.next };
     }
@@ -325,8 +325,8 @@ stopped-at {names} {a} {e} {settings} {feed} h slot open_is stops told =
 pub Replays-header : {names : Names} {a e : RoomState} {settings : PlainSettings} {feed : Feed} (f : RoomState) (end : End) → Opened names a e settings feed → Makes (header_item ∷ []) e f (Err end) → Replays names a f (ending_of end)
 Replays-header {names} {a} {e} {settings} {feed} f end open_is made = ended (ending_of end) (staged-works open_is.stage (works-writes made.only)) (why (ending_of end) made.end)
   where
-    stops : (slot : Slot) → (IsTrue e.tells → StopsAt slot (header_item ∷ []) e f) → IsTrue e.tells → StopsAt slot (all_writes settings (found_in feed.is_big (pending feed.block ++ e.capture.bytes)).bodies) e f
-    stops slot s told = StopsAt-lift [] (header_item ∷ []) (out settings (found_in feed.is_big (pending feed.block ++ e.capture.bytes)).bodies) (Appends-nothing e) (s told)
+    stops : (slot : Slot) → (IsTrue e.tells → StopsAt slot (header_item ∷ []) e f) → IsTrue e.tells → StopsAt slot (all_writes settings (found feed e.capture.bytes).bodies) e f
+    stops slot s told = StopsAt-lift [] (header_item ∷ []) (out settings (found feed e.capture.bytes).bodies) (Appends-nothing e) (s told)
 
     why : (ending : Ending) → WritesEnd (header_item ∷ []) e f ending → ReplayEnd names a f ending
     why (fault Goose) r = (risen f Goose open_is.stage r.0.rose, stopped-at f Goose open_is (stops Goose r.1))
@@ -356,7 +356,7 @@ front-all slot (w ∷ ws) us = ap (λ (xs : List ℕ). (if is_slot w.slot slot t
 
 -- the records end it
 pub Replays-records : {names : Names} {a e f : RoomState} {settings : PlainSettings} {feed : Feed} (h : RoomState) (ending : Ending) → Opened names a e settings feed → Makes (header_item ∷ []) e f (Ok tt) →
-    TreatsAll settings feed.is_big most_capture 24 (pending feed.block ++ f.capture.bytes) f h ending → Replays names a h ending
+    TreatsAll settings (found feed) f h ending → Replays names a h ending
 Replays-records {names} {a} {e} {f} {settings} {feed} h ending open_is made treats = ended ending (staged-works stage_f treats.only) (why ending end)
   where
     stage_f : Staged names a f
@@ -368,54 +368,54 @@ Replays-records {names} {a} {e} {f} {settings} {feed} h ending open_is made trea
     start : IsStarted names h
     start = started-works (started-works open_is.start (works-writes made.only)) treats.only
 
-    end : RecordsEnd settings feed.is_big most_capture 24 (pending feed.block ++ e.capture.bytes) f h ending
-    end = subst (λ (slot : SlotState). RecordsEnd settings feed.is_big most_capture 24 (pending feed.block ++ slot.bytes) f h ending) (ap (λ (room : RoomState). room.capture) made.only.others) treats.end
+    end : RecordsEnd settings (found feed) e.capture.bytes f h ending
+    end = subst (λ (slot : SlotState). RecordsEnd settings (found feed) slot.bytes f h ending) (ap (λ (room : RoomState). room.capture) made.only.others) treats.end
 
-    stops : (slot : Slot) → (IsTrue f.tells → StopsAt slot (out settings (found_in feed.is_big (pending feed.block ++ e.capture.bytes)).bodies) f h) → IsTrue e.tells → StopsAt slot (all_writes settings (found_in feed.is_big (pending feed.block ++ e.capture.bytes)).bodies) e h
-    stops slot s told = subst (λ (items : List Item). StopsAt slot (header_item ∷ items) e h) (append-nil (out settings (found_in feed.is_big (pending feed.block ++ e.capture.bytes)).bodies))
-        (StopsAt-lift (header_item ∷ []) (out settings (found_in feed.is_big (pending feed.block ++ e.capture.bytes)).bodies) [] (made.all told) (s (told_on made.only told)))
+    stops : (slot : Slot) → (IsTrue f.tells → StopsAt slot (out settings (found feed e.capture.bytes).bodies) f h) → IsTrue e.tells → StopsAt slot (all_writes settings (found feed e.capture.bytes).bodies) e h
+    stops slot s told = subst (λ (items : List Item). StopsAt slot (header_item ∷ items) e h) (append-nil (out settings (found feed e.capture.bytes).bodies))
+        (StopsAt-lift (header_item ∷ []) (out settings (found feed e.capture.bytes).bodies) [] (made.all told) (s (told_on made.only told)))
 
     all : (bodies : List (List ℕ)) → Appends (out settings bodies) f h → IsTrue e.tells → Appends (all_writes settings bodies) e h
     all bodies appended told = Appends-more (made.all told) appended
 
-    completed : (x : Ending) → (IsTrue f.tells → Stopped settings (found_in feed.is_big (pending feed.block ++ e.capture.bytes)) f h x) → Completed names a h x
+    completed : (x : Ending) → (IsTrue f.tells → Stopped settings (found feed e.capture.bytes) f h x) → Completed names a h x
     completed x stopped = (
       start,
       λ told.
           let k = open_is.known told in
           let s = stopped (told_on made.only (told_e told)) in
-          record { settings = settings; found = found_in feed.is_big (pending feed.block ++ e.capture.bytes); replay = replay-of k; stop = s.0; written = written-all k.goose k.log (all (found_in feed.is_big (pending feed.block ++ e.capture.bytes)).bodies s.1 (told_e told)) },
+          record { settings = settings; found = found feed e.capture.bytes; replay = replay-of k; stop = s.0; written = written-all k.goose k.log (all (found feed e.capture.bytes).bodies s.1 (told_e told)) },
     )
 
-    broken : (IsTrue f.tells → BreaksOffAt settings feed.is_big most_capture 24 (pending feed.block ++ e.capture.bytes) f h) → IsFaultAtRecord names a h
+    broken : (IsTrue f.tells → BreaksOffAt settings (found feed) e.capture.bytes f h) → IsFaultAtRecord names a h
     broken breaks = record {
       started = start;
       reached = λ told.
           let k = open_is.known told in
           let b = breaks (told_on made.only (told_e told)) in
-          let len = length-append k.begun.header b.front in
+          let len = length-append k.begun.prefix b.front in
           record {
             settings = settings;
             accepted = k.accepted;
-            taken = k.begun.header ++ b.front;
+            taken = k.begun.prefix ++ b.front;
             long = let l = k.begun.long in omega arith;
-            is = k.begun.is ∙ (ap (λ xs. k.begun.header ++ xs) b.is ∙ sym (append_assoc k.begun.header b.front h.capture.bytes));
-            found = records_from feed.is_big most_capture 24 b.front;
-            records = records-begun most_capture (record { header = k.begun.header; long = k.begun.long; is = refl; known = k.begun.known });
-            written = written-all k.goose k.log (all (records_from feed.is_big most_capture 24 b.front).bodies b.written (told_e told));
+            is = k.begun.is ∙ (ap (λ xs. k.begun.prefix ++ xs) b.is ∙ sym (append_assoc k.begun.prefix b.front h.capture.bytes));
+            found = found feed b.front;
+            records = all-of k b.front;
+            written = written-all k.goose k.log (all (found feed b.front).bodies b.written (told_e told));
           };
     }
 
     -- the outputs hold a front of all that is written
-    reached : (IsTrue f.tells → BreaksOffAt settings feed.is_big most_capture 24 (pending feed.block ++ e.capture.bytes) f h) → IsTrue a.tells → IsStopped Capture names a h
+    reached : (IsTrue f.tells → BreaksOffAt settings (found feed) e.capture.bytes f h) → IsTrue a.tells → IsStopped Capture names a h
     reached breaks told =
         let k = open_is.known told in
         let b = breaks (told_on made.only (told_e told)) in
-        let done_items : List Item = all_writes settings (records_from feed.is_big most_capture 24 b.front).bodies in
-        let w = written-all k.goose k.log (all (records_from feed.is_big most_capture 24 b.front).bodies b.written (told_e told)) in
+        let done_items : List Item = all_writes settings (found feed b.front).bodies in
+        let w = written-all k.goose k.log (all (found feed b.front).bodies b.written (told_e told)) in
         record {
           settings = settings;
-          found = found_in feed.is_big (pending feed.block ++ e.capture.bytes);
+          found = found feed e.capture.bytes;
           replay = replay-of k;
           reached = subst (λ (items : List Item). Reaches Capture (header_item ∷ items) h) (sym b.more) (record {
             whole = length done_items;
@@ -425,7 +425,7 @@ Replays-records {names} {a} {e} {f} {settings} {feed} h ending open_is made trea
           });
         }
 
-    why : (x : Ending) → RecordsEnd settings feed.is_big most_capture 24 (pending feed.block ++ e.capture.bytes) f h x → ReplayEnd names a h x
+    why : (x : Ending) → RecordsEnd settings (found feed) e.capture.bytes f h x → ReplayEnd names a h x
     why (fault Capture) r = (risen h Capture stage_f r.0, (inr (broken r.1, reached r.1), λ told. (settings, (open_is.known told).accepted)))
     why (fault Goose) r = (risen h Goose stage_f r.0.rose, stopped-at h Goose open_is (stops Goose r.1))
     why (fault Log) r = (risen h Log stage_f r.0.rose, stopped-at h Log open_is (stops Log r.1))

@@ -1,15 +1,13 @@
 -- Record after record.
-use Rattle.std.proofs.Common.{◌≡◌, ℕ, ◌+◌, ◌≤◌, IsTrue, Bool, true, false, List, [], ◌∷◌, ◌++◌, length, take, drop, reverse, refl, sym, ◌∙◌, ap, subst, arith, append_assoc, append-nil, length-append, length-drop}
-use Rattle.std.specs.Prelude.{Ok, None, Some, nat_le, nat_lt, ◌==◌, ◌&&◌, if◌then◌else◌}
-use Rattle.std.proofs.lemmas.Bool.Decides.{nat_tests}
+use Rattle.std.proofs.Common.{◌≡◌, ℕ, ◌+◌, ◌≤◌, IsTrue, true, false, List, [], ◌∷◌, ◌++◌, length, take, reverse, refl, sym, ◌∙◌, ap, subst, arith, append_assoc, append-nil, length-append}
+use Rattle.std.specs.Prelude.{Ok}
 use Rattle.room_io.specs.Room.{RoomState, SlotState, at, Rose, OnlyAt, StaysOpen}
 use Rattle.room_io.specs.declared.room.Slot.{Slot}
 use Rattle.room_io.specs.declared.room.Slot.TheVariants.{Settings, Capture, Goose, Log, Note, Answer}
-use Rattle.capture_feed.specs.Capture.{Records, Stop, Whole, Damaged, Cut, TooLong, captured, size, records_from, add, stopped}
-use Rattle.capture_feed.proofs.OneRecord.{records-stop}
-use Rattle.capture_feed.specs.declared.feed.FeedStop.{FeedStop}
-use Rattle.capture_feed.specs.declared.feed.FeedStop.TheVariants as stops
-use Rattle.capture_feed.specs.Gives.{Gives, HoldsNone}
+use Rattle.capture_feed.specs.Records.{Records, Stop, Damaged, Cut, TooLong, add, stopped}
+use Rattle.capture_feed.specs.declared.stop.FeedStop.{FeedStop}
+use Rattle.capture_feed.specs.declared.stop.FeedStop.TheVariants as stops
+use Rattle.capture_feed.specs.Answers.{Gives, HoldsNone, StopsAs}
 use Rattle.sv_frame.specs.Asdu.{PlainAsdu}
 use Rattle.sv_frame.specs.Frame.{sv}
 use Rattle.relay_settings.specs.Settings.{PlainLine, PlainSettings}
@@ -110,32 +108,30 @@ out-split settings bodies body others =
     ∙ ap (λ k. out settings bodies ++ (frame_items settings k (heard [] bodies) (reading body) ++ items_from settings (k + 1) (reverse (sets_of (reading body)) ++ heard [] bodies) others)) (omega arith)
 
 -- what was lent is how the record is read
-pub lent-reading : (most captured : ℕ) (bytes text : List ℕ) → most ≡ 2048 → length text ≡ 16 + captured → bytes ≡ take most (drop 16 text) → sv bytes captured ≡ reading (drop 16 text)
-lent-reading most captured bytes text most_is long lent =
-    let len : captured ≡ length (drop 16 text) = let l = length-drop 16 text in omega arith in
-    ap (λ xs. sv xs captured) (lent ∙ ap (λ k. take k (drop 16 text)) most_is) ∙ ap (sv (take 2048 (drop 16 text))) len
+pub lent-reading : (captured : ℕ) (bytes body : List ℕ) → length body ≡ captured → bytes ≡ take 2048 body → sv bytes captured ≡ reading body
+lent-reading captured bytes body long lent = ap (λ xs. sv xs captured) lent ∙ ap (sv (take 2048 body)) (sym long)
 
 -- ---- the loop
 
 -- what was done of a capture in a room that tells
-pub record Done (settings : PlainSettings) (is_big : Bool) (limit taken₀ : ℕ) (whole : List ℕ) (number taken : ℕ) (left : List ℕ) (past : List PlainAsdu) (old now : RoomState) : Type 0 where
+pub record Done (settings : PlainSettings) (first : List ℕ → Records) (whole : List ℕ) (number : ℕ) (next : List ℕ → Records) (left : List ℕ) (past : List PlainAsdu) (old now : RoomState) : Type 0 where
   pub bodies : List (List ℕ)
   pub texts : List ℕ
   pub is : whole ≡ texts ++ left
-  pub one : (more : List ℕ) → records_from is_big limit taken₀ (texts ++ more) ≡ add_all bodies (records_from is_big limit taken more)
+  pub one : (more : List ℕ) → first (texts ++ more) ≡ add_all bodies (next more)
   pub count : number ≡ length bodies
   pub past_is : past ≡ heard [] bodies
   pub written : Appends (out settings bodies) old now
 
-pub record Treated (common : Common) (settings : PlainLine) (is_big : Bool) (limit taken₀ : ℕ) (whole : List ℕ) (number taken : ℕ) (left : List ℕ) (line : Line) (old now : RoomState) : Type 0 where
+pub record Treated (common : Common) (settings : PlainLine) (first : List ℕ → Records) (whole : List ℕ) (number : ℕ) (next : List ℕ → Records) (left : List ℕ) (line : Line) (old now : RoomState) : Type 0 where
   pub past : List PlainAsdu
   pub stands : StandsFor common settings (own settings past) line
-  pub done : IsTrue old.tells → Done (alone common settings) is_big limit taken₀ whole number taken left past old now
+  pub done : IsTrue old.tells → Done (alone common settings) first whole number next left past old now
 
-pub treated-none : (common : Common) (settings : PlainLine) (is_big : Bool) (limit taken : ℕ) (whole : List ℕ) (line : Line) (room : RoomState) → StandsFor common settings [] line →
-    Treated common settings is_big limit taken whole 0 taken whole line room room
+pub treated-none : (common : Common) (settings : PlainLine) (first : List ℕ → Records) (whole : List ℕ) (line : Line) (room : RoomState) → StandsFor common settings [] line →
+    Treated common settings first whole 0 first whole line room room
 unfolding heard items_from
-treated-none common settings is_big limit taken whole line room stands = record {
+treated-none common settings first whole line room stands = record {
   past = [];
   stands = stands;
   done = λ told. record {
@@ -149,14 +145,10 @@ treated-none common settings is_big limit taken whole line room stands = record 
   };
 }
 
--- a fact of the feed's byte order and limit, which stay
-pub moved : {b b' : Bool} {n n' : ℕ} → b ≡ b' → n ≡ n' → (P : Bool → ℕ → Type 0) → P b n → P b' n'
-moved {b} {b'} {n} {n'} order limit P p = subst (λ x. P x n') order (subst (λ k. P b k) limit p)
-
-pub same-place : {common : Common} {settings : PlainLine} {is_big : Bool} {limit taken₀ : ℕ} {whole : List ℕ} {number taken taken' : ℕ} {left left' : List ℕ} {line : Line} {old now : RoomState} →
-    taken' ≡ taken → left' ≡ left → Treated common settings is_big limit taken₀ whole number taken left line old now → Treated common settings is_big limit taken₀ whole number taken' left' line old now
-same-place {common} {settings} {is_big} {limit} {taken₀} {whole} {number} {taken} {taken'} {left} {left'} {line} {old} {now} p q t =
-    subst (λ n. Treated common settings is_big limit taken₀ whole number n left' line old now) (sym p) (subst (λ xs. Treated common settings is_big limit taken₀ whole number taken xs line old now) (sym q) t)
+pub same-place : {common : Common} {settings : PlainLine} {first : List ℕ → Records} {whole : List ℕ} {number : ℕ} {next : List ℕ → Records} {left left' : List ℕ} {line : Line} {old now : RoomState} →
+    left' ≡ left → Treated common settings first whole number next left line old now → Treated common settings first whole number next left' line old now
+same-place {common} {settings} {first} {whole} {number} {next} {left} {left'} {line} {old} {now} q t =
+    subst (λ xs. Treated common settings first whole number next xs line old now) (sym q) t
 
 -- what stays of the room by a read behind the work so far
 worked : {old now mid : RoomState} → OnlyWorks old now → OnlyAt Capture now mid → StaysOpen Capture now mid → now.capture.faults ≤ mid.capture.faults → OnlyWorks old mid
@@ -180,38 +172,29 @@ lifted {a} {b} {c} slot only faults = record {
 pub in-out : true ≡ false → ⊥
 in-out p = cc
 
-too_long_is : (is_big : Bool) (limit taken : ℕ) (rest : List ℕ) → limit ≤ taken → records_from is_big limit taken rest ≡ stopped TooLong
-too_long_is is_big limit taken rest h =
-    let long : nat_le limit taken ≡ true = grind (arith, nat_tests) in
-    records-stop is_big limit taken rest TooLong (ap (λ (b : Bool). if b then Some TooLong
-    else if length rest == 0 then Some Whole
-    else if nat_le 16 (length rest) && nat_lt 262144 (captured is_big rest) then Some (Damaged (captured is_big rest))
-    else if nat_lt (length rest) (size is_big rest) then Some Cut
-    else None) long)
-
-module _ (common : Common) (settings : PlainLine) (is_big : Bool) (limit taken₀ : ℕ) (whole : List ℕ) where
+module _ (common : Common) (settings : PlainLine) (first : List ℕ → Records) (whole : List ℕ) where
   -- one record further
-  pub treated-next : {number taken captured : ℕ} {bytes left left' : List ℕ} {line next : Line} {old now mid new : RoomState} →
-      (treated : Treated common settings is_big limit taken₀ whole number taken left line old now) → OnlyWorks old now → OnlyAt Capture now mid →
-      (IsTrue now.tells → Gives is_big limit taken bytes captured left left') →
-      Hears common settings treated.past (sets_of (sv bytes captured)) (frame_items (alone common settings) (number + 1) treated.past (sv bytes captured)) next mid new (Ok tt) →
-      Treated common settings is_big limit taken₀ whole (number + 1) (taken + (16 + captured)) left' next old new
-  treated-next {number} {taken} {captured} {bytes} {left} {left'} {line} {next} {old} {now} {mid} {new} treated only read gives hears = record {
+  pub treated-next : {number captured : ℕ} {next after : List ℕ → Records} {bytes left left' : List ℕ} {line line' : Line} {old now mid new : RoomState} →
+      (treated : Treated common settings first whole number next left line old now) → OnlyWorks old now → OnlyAt Capture now mid →
+      (IsTrue now.tells → Gives next after bytes captured left left') →
+      Hears common settings treated.past (sets_of (sv bytes captured)) (frame_items (alone common settings) (number + 1) treated.past (sv bytes captured)) line' mid new (Ok tt) →
+      Treated common settings first whole (number + 1) after left' line' old new
+  treated-next {number} {captured} {next} {after} {bytes} {left} {left'} {line} {line'} {old} {now} {mid} {new} treated only read gives hears = record {
     past = reverse (sets_of (sv bytes captured)) ++ treated.past;
     stands = hears.stands;
     done = λ told.
         let d = treated.done told in
         let told_now : IsTrue now.tells = told_works only told in
         let given = gives told_now in
-        let body : List ℕ = drop 16 given.text in
-        let read_is : sv bytes captured ≡ reading body = lent-reading 2048 captured bytes given.text refl given.long given.lent in
+        let body : List ℕ = given.body in
+        let read_is : sv bytes captured ≡ reading body = lent-reading captured bytes body given.long given.lent in
         let told_mid : IsTrue mid.tells = ap (λ (room : RoomState). room.tells) read.is ∙ told_now in
         record {
           bodies = d.bodies ++ body ∷ [];
-          texts = d.texts ++ given.text;
-          is = d.is ∙ (ap (λ xs. d.texts ++ xs) given.is ∙ sym (append_assoc d.texts given.text left'));
-          one = λ more. ap (records_from is_big limit taken₀) (append_assoc d.texts given.text more) ∙ (d.one (given.text ++ more)
-              ∙ (ap (add_all d.bodies) (given.one more) ∙ add_all-push d.bodies body (records_from is_big limit (taken + (16 + captured)) more)));
+          texts = d.texts ++ given.goes.prefix;
+          is = d.is ∙ (ap (λ xs. d.texts ++ xs) given.goes.is ∙ sym (append_assoc d.texts given.goes.prefix left'));
+          one = λ more. ap first (append_assoc d.texts given.goes.prefix more) ∙ (d.one (given.goes.prefix ++ more)
+              ∙ (ap (add_all d.bodies) (given.goes.one more) ∙ add_all-push d.bodies body (after more)));
           count = let c = d.count in let l = length-append d.bodies (body ∷ []) in omega arith;
           past_is = ap (λ s. reverse (sets_of s) ++ treated.past) read_is ∙ (ap (λ p. reverse (sets_of (reading body)) ++ p) d.past_is ∙ sym (heard-push d.bodies body));
           written = subst (λ (items : List Item). Appends items old new)
@@ -224,22 +207,22 @@ module _ (common : Common) (settings : PlainLine) (is_big : Bool) (limit taken�
   }
 
   -- a write of this record failed
-  stops-within : {number taken captured : ℕ} {bytes left left' : List ℕ} {line : Line} {old now mid new : RoomState} (slot : Slot) →
-      (treated : Treated common settings is_big limit taken₀ whole number taken left line old now) → OnlyWorks old now → OnlyAt Capture now mid →
-      (IsTrue now.tells → Gives is_big limit taken bytes captured left left') →
+  stops-within : {number captured : ℕ} {next after : List ℕ → Records} {bytes left left' : List ℕ} {line : Line} {old now mid new : RoomState} (slot : Slot) →
+      (treated : Treated common settings first whole number next left line old now) → OnlyWorks old now → OnlyAt Capture now mid →
+      (IsTrue now.tells → Gives next after bytes captured left left') →
       (IsTrue mid.tells → StopsAt slot (frame_items (alone common settings) (number + 1) treated.past (sv bytes captured)) mid new) →
-      IsTrue old.tells → StopsAt slot (out (alone common settings) (records_from is_big limit taken₀ whole).bodies) old new
-  stops-within {number} {taken} {captured} {bytes} {left} {left'} {line} {old} {now} {mid} {new} slot treated only read gives stops told =
+      IsTrue old.tells → StopsAt slot (out (alone common settings) (first whole).bodies) old new
+  stops-within {number} {captured} {next} {after} {bytes} {left} {left'} {line} {old} {now} {mid} {new} slot treated only read gives stops told =
       let s : PlainSettings = alone common settings in
       let d = treated.done told in
       let told_now : IsTrue now.tells = told_works only told in
       let given = gives told_now in
-      let body : List ℕ = drop 16 given.text in
-      let rest : Records = records_from is_big limit (taken + (16 + captured)) left' in
-      let read_is : sv bytes captured ≡ reading body = lent-reading 2048 captured bytes given.text refl given.long given.lent in
+      let body : List ℕ = given.body in
+      let rest : Records = after left' in
+      let read_is : sv bytes captured ≡ reading body = lent-reading captured bytes body given.long given.lent in
       let told_mid : IsTrue mid.tells = ap (λ (room : RoomState). room.tells) read.is ∙ told_now in
-      let found : records_from is_big limit taken₀ whole ≡ add_all d.bodies (add body rest) =
-      ap (records_from is_big limit taken₀) (d.is ∙ ap (λ xs. d.texts ++ xs) given.is) ∙ (d.one (given.text ++ left') ∙ ap (add_all d.bodies) (given.one left')) in
+      let found : first whole ≡ add_all d.bodies (add body rest) =
+      ap first (d.is ∙ ap (λ xs. d.texts ++ xs) given.goes.is) ∙ (d.one (given.goes.prefix ++ left') ∙ ap (add_all d.bodies) (given.goes.one left')) in
       let items_are : frame_items s (number + 1) treated.past (sv bytes captured) ≡ frame_items s (length d.bodies + 1) (heard [] d.bodies) (reading body) =
       ap (frame_items s (number + 1) treated.past) read_is ∙ (ap (λ p. frame_items s (number + 1) p (reading body)) d.past_is ∙ ap (λ k. frame_items s (k + 1) (heard [] d.bodies) (reading body)) d.count) in
       subst (λ (items : List Item). StopsAt slot items old new)
@@ -247,11 +230,11 @@ module _ (common : Common) (settings : PlainLine) (is_big : Bool) (limit taken�
       (StopsAt-lift (out s d.bodies) (frame_items s (length d.bodies + 1) (heard [] d.bodies) (reading body)) (items_from s (length d.bodies + 1 + 1) (reverse (sets_of (reading body)) ++ heard [] d.bodies) rest.bodies)
       (Appends-before d.written read) (subst (λ (items : List Item). StopsAt slot items mid new) items_are (stops told_mid)))
 
-  pub treated-stopped : {number taken captured : ℕ} {bytes left left' : List ℕ} {line : Line} (old now mid new : RoomState) (ending : Ending) →
-      (treated : Treated common settings is_big limit taken₀ whole number taken left line old now) → OnlyWorks old now → OnlyAt Capture now mid → OnlyWorks now mid →
-      (IsTrue now.tells → Gives is_big limit taken bytes captured left left') →
+  pub treated-stopped : {number captured : ℕ} {next after : List ℕ → Records} {bytes left left' : List ℕ} {line : Line} (old now mid new : RoomState) (ending : Ending) →
+      (treated : Treated common settings first whole number next left line old now) → OnlyWorks old now → OnlyAt Capture now mid → OnlyWorks now mid →
+      (IsTrue now.tells → Gives next after bytes captured left left') →
       WritesEnd (frame_items (alone common settings) (number + 1) treated.past (sv bytes captured)) mid new ending →
-      RecordsEnd (alone common settings) is_big limit taken₀ whole old new ending
+      RecordsEnd (alone common settings) first whole old new ending
   treated-stopped old now mid new (fault Goose) treated only read works gives (faults, stops) = (lifted Goose (OnlyWorks-trans only works) faults, stops-within Goose treated only read gives stops)
   treated-stopped old now mid new (fault Log) treated only read works gives (faults, stops) = (lifted Log (OnlyWorks-trans only works) faults, stops-within Log treated only read gives stops)
   treated-stopped old now mid new (fault Settings) treated only read works gives (faults, stops) = absurd (in-out faults.output)
@@ -268,53 +251,46 @@ module _ (common : Common) (settings : PlainLine) (is_big : Bool) (limit taken�
   treated-stopped old now mid new no_memory treated only read works gives e = absurd e
 
   -- no further record comes
-  pub treated-finished : {number taken : ℕ} {left : List ℕ} {line : Line} {old now new : RoomState} (stop : Stop) (ending : Ending) →
-      Treated common settings is_big limit taken₀ whole number taken left line old now → OnlyWorks old now → OnlyAt Capture now new →
-      (IsTrue now.tells → records_from is_big limit taken left ≡ stopped stop) → ending ≡ ending_at stop number →
-      IsTrue old.tells → Stopped (alone common settings) (records_from is_big limit taken₀ whole) old new ending
-  treated-finished {number} {taken} {left} {line} {old} {now} {new} stop ending treated only read stops ending_is told =
+  pub treated-finished : {number : ℕ} {next : List ℕ → Records} {left : List ℕ} {line : Line} {old now new : RoomState} (stop : Stop) (ending : Ending) →
+      Treated common settings first whole number next left line old now → OnlyWorks old now → OnlyAt Capture now new →
+      (IsTrue now.tells → next left ≡ stopped stop) → ending ≡ ending_at stop number →
+      IsTrue old.tells → Stopped (alone common settings) (first whole) old new ending
+  treated-finished {number} {next} {left} {line} {old} {now} {new} stop ending treated only read stops ending_is told =
       let s : PlainSettings = alone common settings in
       let d = treated.done told in
       let none : add_all d.bodies (stopped stop) ≡ record { bodies = d.bodies; stop = stop } = ap (λ bs. let r : Records = record { bodies = bs; stop = stop } in r) (append-nil d.bodies) in
-      let found : records_from is_big limit taken₀ whole ≡ record { bodies = d.bodies; stop = stop } =
-      ap (records_from is_big limit taken₀) d.is ∙ (d.one left ∙ (ap (add_all d.bodies) (stops (told_works only told)) ∙ none)) in
+      let found : first whole ≡ record { bodies = d.bodies; stop = stop } =
+      ap first d.is ∙ (d.one left ∙ (ap (add_all d.bodies) (stops (told_works only told)) ∙ none)) in
       subst (λ (r : Records). Stopped s r old new ending) (sym found) (ending_is ∙ ap (ending_at stop) d.count, Appends-before d.written read)
 
   -- a read failed where no further record stands
-  pub treated-broken : {number taken : ℕ} {left : List ℕ} {line : Line} {old now new : RoomState} →
-      Treated common settings is_big limit taken₀ whole number taken left line old now → OnlyWorks old now → OnlyAt Capture now new →
-      (IsTrue now.tells → HoldsNone is_big limit taken left new.capture.bytes) →
-      IsTrue old.tells → BreaksOffAt (alone common settings) is_big limit taken₀ whole old new
-  treated-broken {number} {taken} {left} {line} {old} {now} {new} treated only read holds told =
+  pub treated-broken : {number : ℕ} {next : List ℕ → Records} {left : List ℕ} {line : Line} {old now new : RoomState} →
+      Treated common settings first whole number next left line old now → OnlyWorks old now → OnlyAt Capture now new →
+      (IsTrue now.tells → HoldsNone next left new.capture.bytes) →
+      IsTrue old.tells → BreaksOffAt (alone common settings) first whole old new
+  treated-broken {number} {next} {left} {line} {old} {now} {new} treated only read holds told =
       let s : PlainSettings = alone common settings in
       let d = treated.done told in
       let h = holds (told_works only told) in
-      let found : (records_from is_big limit taken₀ (d.texts ++ h.front)).bodies ≡ d.bodies =
-      ap (λ (r : Records). r.bodies) (d.one h.front) ∙ (ap (λ bs. d.bodies ++ bs) h.none ∙ append-nil d.bodies) in
+      let found : (first (d.texts ++ h.prefix)).bodies ≡ d.bodies =
+      ap (λ (r : Records). r.bodies) (d.one h.prefix) ∙ (ap (λ bs. d.bodies ++ bs) h.none ∙ append-nil d.bodies) in
       record {
-        front = d.texts ++ h.front;
-        is = d.is ∙ (ap (λ xs. d.texts ++ xs) h.is ∙ sym (append_assoc d.texts h.front new.capture.bytes));
+        front = d.texts ++ h.prefix;
+        is = d.is ∙ (ap (λ xs. d.texts ++ xs) h.is ∙ sym (append_assoc d.texts h.prefix new.capture.bytes));
         written = subst (λ bs. Appends (out s bs) old new) (sym found) (Appends-before d.written read);
-        rest = items_from s (1 + length d.bodies) (heard [] d.bodies) (records_from is_big limit taken left).bodies;
-        more = ap (λ (r : Records). out s r.bodies) (ap (records_from is_big limit taken₀) d.is ∙ d.one left)
-            ∙ (items_from-append s 1 [] d.bodies (records_from is_big limit taken left).bodies
-            ∙ ap (λ bs. out s bs ++ items_from s (1 + length d.bodies) (heard [] d.bodies) (records_from is_big limit taken left).bodies) (sym found));
+        rest = items_from s (1 + length d.bodies) (heard [] d.bodies) (next left).bodies;
+        more = ap (λ (r : Records). out s r.bodies) (ap first d.is ∙ d.one left)
+            ∙ (items_from-append s 1 [] d.bodies (next left).bodies
+            ∙ ap (λ bs. out s bs ++ items_from s (1 + length d.bodies) (heard [] d.bodies) (next left).bodies) (sym found));
       }
 
   -- the feed stopped
-  pub treated-halted : {number taken : ℕ} {left : List ℕ} {line : Line} {old now new : RoomState} (stop : FeedStop) →
-      Treated common settings is_big limit taken₀ whole number taken left line old now → OnlyWorks old now → OnlyAt Capture now new → StaysOpen Capture now new → now.capture.faults ≤ new.capture.faults →
-      (stop ≡ stops.NotCapture → ⊥) →
-      (stop ≡ stops.Cut → IsTrue now.tells → records_from is_big limit taken left ≡ stopped Cut) →
-      ((n : ℕ) → stop ≡ stops.Damaged n → IsTrue now.tells → records_from is_big limit taken left ≡ stopped (Damaged n)) →
-      (stop ≡ stops.TooLong → limit ≤ taken) →
-      (stop ≡ stops.Fault → Rose now.capture.faults new.capture.faults) →
-      (stop ≡ stops.Fault → IsTrue now.tells → HoldsNone is_big limit taken left new.capture.bytes) →
-      RecordsEnd (alone common settings) is_big limit taken₀ whole old new (halted stop number)
-  treated-halted {number} {taken} {left} {line} {old} {now} {new} stops.Fault treated only read stays later no_header cuts damages long rose holds =
-      (let r : Rose now.capture.faults new.capture.faults = rose refl in let l = only.capture.later in omega arith, treated-broken treated only read (holds refl))
-  treated-halted stops.NotCapture treated only read stays later no_header cuts damages long rose holds = absurd (no_header refl)
-  treated-halted {number} stops.Cut treated only read stays later no_header cuts damages long rose holds = treated-finished Cut (cut number) treated only read (cuts refl) refl
-  treated-halted {number} (stops.Damaged n) treated only read stays later no_header cuts damages long rose holds = treated-finished (Damaged n) (damaged number n) treated only read (damages n refl) refl
-  treated-halted {number} {taken} {left} stops.TooLong treated only read stays later no_header cuts damages long rose holds =
-      treated-finished TooLong (too_long number) treated only read (λ _. too_long_is is_big limit taken left (long refl)) refl
+  pub treated-halted : {number : ℕ} {next : List ℕ → Records} {line : Line} {old now : RoomState} (new : RoomState) (stop : FeedStop) →
+      Treated common settings first whole number next now.capture.bytes line old now → OnlyWorks old now → OnlyAt Capture now new →
+      StopsAs next now new stop → RecordsEnd (alone common settings) first whole old new (halted stop number)
+  treated-halted {number} {next} {line} {old} {now} new stops.Fault treated only read at =
+      (let r : Rose now.capture.faults new.capture.faults = at.0 in let l = only.capture.later in omega arith, treated-broken treated only read at.1)
+  treated-halted new stops.NotCapture treated only read at = absurd at
+  treated-halted {number} new stops.Cut treated only read at = treated-finished Cut (cut number) treated only read at refl
+  treated-halted {number} new (stops.Damaged n) treated only read at = treated-finished (Damaged n) (damaged number n) treated only read at refl
+  treated-halted {number} new stops.TooLong treated only read at = treated-finished TooLong (too_long number) treated only read at refl

@@ -7,8 +7,8 @@ use Rattle.relay_settings.specs.declared.types.Common.{Common}
 use Rattle.line_relay.specs.Lines.{StandsFor}
 use Rattle.line_relay.specs.declared.line.Line.{Line}
 use Rattle.room_io.specs.declared.room.Slot.TheVariants as slots
-use Rattle.capture_feed.specs.declared.feed.FeedStop.{FeedStop}
-use Rattle.capture_feed.specs.declared.feed.FeedStop.TheVariants.{Fault, NotCapture, Cut, Damaged, TooLong}
+use Rattle.capture_feed.specs.declared.stop.FeedStop.{FeedStop}
+use Rattle.capture_feed.specs.declared.stop.FeedStop.TheVariants.{Fault, NotCapture, Cut, Damaged, TooLong}
 use Rattle.relay_tool.specs.Endings.{Ending, fault, not_capture, cut, damaged, too_long}
 use Rattle.relay_tool.specs.Output.{Item, own}
 use Rattle.relay_tool.specs.Making.{Makes}

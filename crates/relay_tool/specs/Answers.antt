@@ -4,7 +4,8 @@ use Rattle.std.specs.List.{list_any}
 use Rattle.room_io.specs.Room.{RoomState, at, Rose, IsFile, IsOutput}
 use Rattle.room_io.specs.declared.room.Slot.{Slot}
 use Rattle.room_io.specs.declared.room.Slot.TheVariants.{Settings, Capture, Note}
-use Rattle.capture_feed.specs.Capture.{Records, records}
+use Rattle.capture_feed.specs.Records.{Records}
+use Rattle.capture_feed.specs.Captures.{records}
 use Rattle.relay_settings.specs.Settings.{PlainSettings}
 use Rattle.relay_tool.specs.Endings.{status_of, note_of, fault, no_memory, not_capture, done}
 use Rattle.relay_tool.specs.Words.{Names, Asked, replay, check, form}

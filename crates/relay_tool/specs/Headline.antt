@@ -4,7 +4,8 @@
 use Rattle.std.specs.Prelude.{◌≡◌, ◌≢◌, ℕ, IsTrue, List, length, Some, Ok, ◌++◌}
 use Rattle.room_io.specs.Room.{RoomState}
 use Rattle.room_io.specs.declared.room.Slot.TheVariants.{Goose, Log}
-use Rattle.capture_feed.specs.Capture.{Records, records}
+use Rattle.capture_feed.specs.Records.{Records}
+use Rattle.capture_feed.specs.Captures.{records}
 use Rattle.capture_feed.specs.Written.{header_bytes}
 use Rattle.relay_settings.specs.Settings.{PlainSettings}
 use Rattle.relay_tool.specs.Endings.{status_of}

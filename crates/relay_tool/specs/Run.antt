@@ -3,7 +3,8 @@ use Rattle.std.specs.Prelude.{ℕ, ◌+◌, ◌^◌, List, [], ◌∷◌, ◌++�
 use Rattle.std.specs.Fmt.{decimal}
 use Rattle.room_io.specs.Room.{content}
 use Rattle.room_io.specs.declared.room.Slot.TheVariants.{Goose}
-use Rattle.capture_feed.specs.Capture.{Records, Stop, Whole, Damaged, Cut, TooLong, records}
+use Rattle.capture_feed.specs.Records.{Records, Stop, Whole, Damaged, Cut, TooLong}
+use Rattle.capture_feed.specs.Captures.{records}
 use Rattle.capture_feed.specs.Written.{header_bytes}
 use Rattle.relay_settings.specs.Settings.{PlainLine, PlainSettings}
 use Rattle.settings_read.specs.Walk.{Answer, Refusal}

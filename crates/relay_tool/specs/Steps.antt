@@ -1,11 +1,11 @@
 -- What each step of a command leaves.
-use Rattle.std.specs.Prelude.{◌≡◌, ◌⊎◌, ℕ, ◌≤◌, ◌<◌, Bool, false, IsTrue, List, [], ◌++◌, length, take, Option, None, Some, Result, Ok, Err, OnOk, IfOk, IfErr}
+use Rattle.std.specs.Prelude.{◌≡◌, ◌⊎◌, ℕ, ◌≤◌, ◌<◌, false, IsTrue, List, [], ◌++◌, length, take, Option, None, Some, Result, Ok, Err, OnOk, IfOk, IfErr}
 use Rattle.room_io.specs.Room.{RoomState, at, Rose, OnlyAt, IsOutput, IsFile}
 use Rattle.room_io.specs.declared.room.Slot.{Slot}
 use Rattle.room_io.specs.declared.room.Slot.TheVariants.{Settings, Capture, Goose, Log, Note, Answer}
-use Rattle.capture_feed.specs.Capture.{Records, records, records_from}
-use Rattle.capture_feed.specs.Block.{pending}
-use Rattle.capture_feed.specs.Begins.{Begins}
+use Rattle.capture_feed.specs.Records.{Records}
+use Rattle.capture_feed.specs.Captures.{records}
+use Rattle.capture_feed.specs.Left.{is_live, limit_of, Begins, HasNoHeader}
 use Rattle.capture_feed.specs.declared.feed.Feed.{Feed}
 use Rattle.relay_settings.specs.Settings.{PlainSettings, plain_settings}
 use Rattle.relay_settings.specs.Ranges.{InRange}
@@ -45,7 +45,7 @@ pub record ReadsSettings (name : List ℕ) (old new : RoomState) (result : Resul
 
 -- why the capture ends a run
 abbrev pub CaptureEnd : List ℕ → RoomState → RoomState → Ending → Type 0
-CaptureEnd name old new not_capture = IsTrue old.tells → records (content_of old.contents name) most_capture ≡ None
+CaptureEnd name old new not_capture = IsTrue old.tells → HasNoHeader (content_of old.contents name) new.capture.bytes
 CaptureEnd name old new (fault slot) = (slot ≡ Capture) × Rose old.capture.faults new.capture.faults
     × (IsTrue old.tells → IsTrue new.capture.is_ready → (taken : List ℕ) × (length taken < 24) × (content_of old.contents name ≡ taken ++ new.capture.bytes))
 CaptureEnd name old new done = ⊥
@@ -62,8 +62,8 @@ pub record OpensCapture (name : List ℕ) (old new : RoomState) (feed : Feed) (r
   pub named : new.capture.name ≡ Some name
   pub later : old.capture.faults ≤ new.capture.faults
   pub ready : OnOk result (IsTrue new.capture.is_ready)
-  pub live : OnOk result (IsTrue feed.is_live × (feed.limit ≡ most_capture) × (feed.taken ≡ 24))
-  pub begun : OnOk result (IsTrue old.tells → Begins feed.is_big (content_of old.contents name) (pending feed.block ++ new.capture.bytes))
+  pub live : OnOk result (IsTrue (is_live feed) × (limit_of feed ≡ most_capture))
+  pub begun : OnOk result (IsTrue old.tells → Begins feed (content_of old.contents name) new.capture.bytes)
   pub end : IfErr result (λ e. CaptureEnd name old new (ending_of e))
 
 -- why the outputs end a run: the fault's slot is not ready
@@ -93,35 +93,35 @@ abbrev pub Stopped : PlainSettings → Records → RoomState → RoomState → E
 Stopped settings found old new ending = (ending ≡ ending_at found.stop (length found.bodies)) × Appends (out settings found.bodies) old new
 
 -- the bytes that were taken behind the header, and what is written of their records
-pub record BreaksOffAt (settings : PlainSettings) (is_big : Bool) (limit taken : ℕ) (whole : List ℕ) (old new : RoomState) : Type 0 where
+pub record BreaksOffAt (settings : PlainSettings) (left : List ℕ → Records) (whole : List ℕ) (old new : RoomState) : Type 0 where
   pub front : List ℕ
   pub is : whole ≡ front ++ new.capture.bytes
-  pub written : Appends (out settings (records_from is_big limit taken front).bodies) old new
+  pub written : Appends (out settings (left front).bodies) old new
   -- which is a front of all that is written
   pub rest : List Item
-  pub more : out settings (records_from is_big limit taken whole).bodies ≡ out settings (records_from is_big limit taken front).bodies ++ rest
+  pub more : out settings (left whole).bodies ≡ out settings (left front).bodies ++ rest
 
--- how the records of these bytes end a run
-abbrev pub RecordsEnd : PlainSettings → Bool → ℕ → ℕ → List ℕ → RoomState → RoomState → Ending → Type 0
-RecordsEnd settings is_big limit taken whole old new (fault Capture) = Rose old.capture.faults new.capture.faults
-    × (IsTrue old.tells → BreaksOffAt settings is_big limit taken whole old new)
-RecordsEnd settings is_big limit taken whole old new (fault Goose) = Faults Goose old new × (IsTrue old.tells → StopsAt Goose (out settings (records_from is_big limit taken whole).bodies) old new)
-RecordsEnd settings is_big limit taken whole old new (fault Log) = Faults Log old new × (IsTrue old.tells → StopsAt Log (out settings (records_from is_big limit taken whole).bodies) old new)
-RecordsEnd settings is_big limit taken whole old new (fault Settings) = ⊥
-RecordsEnd settings is_big limit taken whole old new (fault Note) = ⊥
-RecordsEnd settings is_big limit taken whole old new (fault Answer) = ⊥
-RecordsEnd settings is_big limit taken whole old new done = IsTrue old.tells → Stopped settings (records_from is_big limit taken whole) old new done
-RecordsEnd settings is_big limit taken whole old new (cut records) = IsTrue old.tells → Stopped settings (records_from is_big limit taken whole) old new (cut records)
-RecordsEnd settings is_big limit taken whole old new (damaged records size) = IsTrue old.tells → Stopped settings (records_from is_big limit taken whole) old new (damaged records size)
-RecordsEnd settings is_big limit taken whole old new (too_long records) = IsTrue old.tells → Stopped settings (records_from is_big limit taken whole) old new (too_long records)
-RecordsEnd settings is_big limit taken whole old new usage = ⊥
-RecordsEnd settings is_big limit taken whole old new (refused number key) = ⊥
-RecordsEnd settings is_big limit taken whole old new not_capture = ⊥
-RecordsEnd settings is_big limit taken whole old new no_memory = ⊥
+-- how the records that are left, of an input that has these bytes left, end a run
+abbrev pub RecordsEnd : PlainSettings → (List ℕ → Records) → List ℕ → RoomState → RoomState → Ending → Type 0
+RecordsEnd settings left whole old new (fault Capture) = Rose old.capture.faults new.capture.faults
+    × (IsTrue old.tells → BreaksOffAt settings left whole old new)
+RecordsEnd settings left whole old new (fault Goose) = Faults Goose old new × (IsTrue old.tells → StopsAt Goose (out settings (left whole).bodies) old new)
+RecordsEnd settings left whole old new (fault Log) = Faults Log old new × (IsTrue old.tells → StopsAt Log (out settings (left whole).bodies) old new)
+RecordsEnd settings left whole old new (fault Settings) = ⊥
+RecordsEnd settings left whole old new (fault Note) = ⊥
+RecordsEnd settings left whole old new (fault Answer) = ⊥
+RecordsEnd settings left whole old new done = IsTrue old.tells → Stopped settings (left whole) old new done
+RecordsEnd settings left whole old new (cut records) = IsTrue old.tells → Stopped settings (left whole) old new (cut records)
+RecordsEnd settings left whole old new (damaged records size) = IsTrue old.tells → Stopped settings (left whole) old new (damaged records size)
+RecordsEnd settings left whole old new (too_long records) = IsTrue old.tells → Stopped settings (left whole) old new (too_long records)
+RecordsEnd settings left whole old new usage = ⊥
+RecordsEnd settings left whole old new (refused number key) = ⊥
+RecordsEnd settings left whole old new not_capture = ⊥
+RecordsEnd settings left whole old new no_memory = ⊥
 
-pub record TreatsAll (settings : PlainSettings) (is_big : Bool) (limit taken : ℕ) (whole : List ℕ) (old new : RoomState) (ending : Ending) : Type 0 where
+pub record TreatsAll (settings : PlainSettings) (left : List ℕ → Records) (old new : RoomState) (ending : Ending) : Type 0 where
   pub only : OnlyWorks old new
-  pub end : RecordsEnd settings is_big limit taken whole old new ending
+  pub end : RecordsEnd settings left old.capture.bytes old new ending
 
 -- the settings are accepted, and the capture has these records
 pub record IsReplay (names : Names) (contents : List (List ℕ × List ℕ)) (settings : PlainSettings) (found : Records) : Type 0 where

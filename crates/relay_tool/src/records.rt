@@ -7,7 +7,7 @@ ghost use Rattle.std.specs.Option.{ForSome};
 ghost use Rattle.sample_windows.specs.Windows.{in_order};
 ghost use Rattle.room_io.specs.Room.{IsReadyOut, IsReadyIn};
 ghost use Rattle.room_io.specs.declared.room.Slot.TheVariants.{Capture, Goose, Log};
-ghost use Rattle.capture_feed.specs.Block.{pending};
+ghost use Rattle.capture_feed.specs.Left.{found, is_live};
 ghost use Rattle.sv_frame.specs.Asdu.{PlainAsdu, plain_asdu, plain_asdus};
 ghost use Rattle.sv_frame.specs.Frame.{sv};
 ghost use Rattle.relay_settings.specs.Settings.{PlainLine};
@@ -168,12 +168,12 @@ fn treat_all<R: Room, L: Ledger>(
     room: &mut R,
     steps: &mut Steps<L>,
 ) -> End
-    requires live { IsTrue feed.old.is_live }
+    requires live { IsTrue (is_live feed.old) }
     requires capture { IsReadyIn Capture (R.state room.old) }
     requires log { IsReadyOut Log (R.state room.old) }
     requires fresh { last_of line.old ≡ None }
     ensures { (common : Common) (settings : PlainLine) → StandsFor common settings [] line.old → settings.sv_id ≡ sv_id.now →
-        TreatsAll (alone common settings) feed.old.is_big feed.old.limit feed.old.taken (pending feed.old.block ++ (R.state room.old).capture.bytes) (R.state room.old) (R.state room.new) (ending_of result) }
+        TreatsAll (alone common settings) (found feed.old) (R.state room.old) (R.state room.new) (ending_of result) }
 {
     let mut number: u64 = 0;
     'records: loop {
@@ -204,12 +204,12 @@ pub fn treat_counted<R: Room, L: Ledger>(
     requires name { blank.name ≡ L.name }
     requires parts { blank.parts ≡ L.parts }
     requires shares { 0 < blank.parts }
-    requires live { IsTrue feed.old.is_live }
+    requires live { IsTrue (is_live feed.old) }
     requires capture { IsReadyIn Capture (R.state room.old) }
     requires log { IsReadyOut Log (R.state room.old) }
     requires fresh { last_of line.old ≡ None }
     ensures { (common : Common) (settings : PlainLine) → StandsFor common settings [] line.old → settings.sv_id ≡ sv_id.now →
-        TreatsAll (alone common settings) feed.old.is_big feed.old.limit feed.old.taken (pending feed.old.block ++ (R.state room.old).capture.bytes) (R.state room.old) (R.state room.new) (ending_of result) }
+        TreatsAll (alone common settings) (found feed.old) (R.state room.old) (R.state room.new) (ending_of result) }
 {
     let mut steps = open_steps::<L>(blank);
     treat_all(feed, sv_id, line, room, &mut steps)

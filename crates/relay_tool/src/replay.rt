@@ -2,7 +2,7 @@
 ghost use Rattle.std.specs.Prelude.{◌≡◌, ◌∷◌, [], ◌≤◌, length, true, false, None};
 ghost use Rattle.room_io.specs.Room.{at, IsReadyOut, IsReadyIn, IsUnused};
 ghost use Rattle.room_io.specs.declared.room.Slot.TheVariants.{Settings, Capture, Goose, Log};
-ghost use Rattle.capture_feed.specs.Block.{pending};
+ghost use Rattle.capture_feed.specs.Left.{IsFresh, limit_of};
 ghost use Rattle.capture_feed.specs.Written.{header_bytes};
 ghost use Rattle.relay_tool.specs.Ends.{ending_of};
 ghost use Rattle.relay_tool.specs.Words.{are_short};
@@ -30,9 +30,8 @@ const MOST_CAPTURE: u64 = 1 << 40;
 
 /// Opens the capture and reads its header.
 fn open_capture<R: Room>(feed: &mut Feed, name: &str, room: &mut R) -> Result<(), End>
-    requires fresh { pending feed.old.block ≡ [] }
-    requires dead { feed.old.is_live ≡ false }
-    requires limit { feed.old.limit ≡ most_capture }
+    requires fresh { IsFresh feed.old }
+    requires limit { limit_of feed.old ≡ most_capture }
     requires unnamed { (R.state room.old).capture.name ≡ None }
     requires short { length name.now ≤ 1024 }
     ensures { OpensCapture name.now (R.state room.old) (R.state room.new) feed.new result }

@@ -1,19 +1,15 @@
-use Rattle.std.proofs.Common.{◌≡◌, ◌∙◌, ◌++◌, [], arith, refl, sym, ap, subst, inl, inr}
+use Rattle.std.proofs.Common.{◌≡◌, ◌∙◌, [], arith, refl, sym, ap, subst, inl, inr}
 use Rattle.std.specs.Prelude.{unwrap_or, Err}
 use Rattle.room_io.proofs.Rooms.{OnlyAt-trans}
 use Rattle.room_io.specs.Room.{Rose}
-use Rattle.capture_feed.specs.declared.feed.FeedStop.TheVariants.{Fault}
-use Rattle.capture_feed.specs.Begins.{Begins}
-use Rattle.capture_feed.specs.Block.{pending}
-use Rattle.capture_feed.specs.Capture.{records}
-use Rattle.relay_tool.specs.Run.{most_capture}
+use Rattle.capture_feed.specs.declared.stop.FeedStop.TheVariants.{Fault}
+use Rattle.capture_feed.specs.Left.{Begins, HasNoHeader}
 use Rattle.relay_tool.proofs.Opening.{told_on, closed}
 use Rattle.relay_tool.proofs.replay.open_capture.Goals as goal
 
 pub begin-requires : goal.begin-requires
 begin-requires g c = record {
   fresh = c.requires.fresh;
-  dead = c.requires.dead;
   ready = (refl, c.in-Ok.ensures.ready);
 }
 
@@ -31,27 +27,27 @@ returns-in-Err g c = record {
 pub returns-in-Ok-begin : goal.returns-in-Ok-begin
 returns-in-Ok-begin g c =
     let e = c.in-Ok-begin.ensures in record {
-      only = OnlyAt-trans c.in-Ok.ensures.only e.only;
-      named = e.stays.name ∙ c.in-Ok.ensures.name;
-      later = let x = c.in-Ok.ensures.cause.later in let y = e.later in omega arith;
-      ready = e.stays.ready ∙ c.in-Ok.ensures.ready;
-      live = (e.live, e.limit ∙ c.requires.limit, e.taken);
-      begun = λ told. subst (λ whole. Begins c.begin.new.self.is_big whole (pending c.begin.new.self.block ++ (g.R.Room.state c.begin.new.room).capture.bytes))
-          (sym (ap (λ o. unwrap_or o []) (c.in-Ok.ensures.bytes told))) (e.begun (told_on c.in-Ok.ensures.only told));
+      only = OnlyAt-trans c.in-Ok.ensures.only e.reads.only;
+      named = e.reads.stays.name ∙ c.in-Ok.ensures.name;
+      later = let x = c.in-Ok.ensures.cause.later in let y = e.reads.later in omega arith;
+      ready = e.reads.stays.ready ∙ c.in-Ok.ensures.ready;
+      live = (e.live, e.limit ∙ c.requires.limit);
+      begun = λ told. subst (λ whole. Begins c.begin.new.self whole (g.R.Room.state c.begin.new.room).capture.bytes)
+          (sym (ap (λ o. unwrap_or o []) (c.in-Ok.ensures.bytes told))) (e.begins (told_on c.in-Ok.ensures.only told));
       end = tt;
     }
 
 pub returns-in-NotCapture : goal.returns-in-NotCapture
 returns-in-NotCapture g c =
     let e = rw c.in-NotCapture.is at c.in-Err-begin.ensures in record {
-      only = OnlyAt-trans c.in-Ok.ensures.only e.only;
-      named = e.stays.name ∙ c.in-Ok.ensures.name;
-      later = let x = c.in-Ok.ensures.cause.later in let y = e.later in omega arith;
+      only = OnlyAt-trans c.in-Ok.ensures.only e.reads.only;
+      named = e.reads.stays.name ∙ c.in-Ok.ensures.name;
+      later = let x = c.in-Ok.ensures.cause.later in let y = e.reads.later in omega arith;
       ready = tt;
       live = tt;
       begun = tt;
-      end = λ told. ap (λ o. records (unwrap_or o []) most_capture) (c.in-Ok.ensures.bytes told)
-          ∙ (ap (λ n. records (g.R.Room.state c.open_in.new.self).capture.bytes n) (sym c.requires.limit) ∙ e.not_capture refl (told_on c.in-Ok.ensures.only told));
+      end = λ told. subst (λ whole. HasNoHeader whole (g.R.Room.state c.begin.new.room).capture.bytes)
+          (sym (ap (λ o. unwrap_or o []) (c.in-Ok.ensures.bytes told))) (e.not_capture refl (told_on c.in-Ok.ensures.only told));
     }
 
 pub returns-in_default : goal.returns-in_default
@@ -60,9 +56,9 @@ returns-in_default g c =
     let is_fault : c.in-Err-begin.stop ≡ Fault = elim e.kinds [ inl f ↦ f | inr n ↦ absurd (c.in_default.not-NotCapture n) ] in
     let r : Rose (g.R.Room.state c.open_in.new.self).capture.faults (g.R.Room.state c.begin.new.room).capture.faults = e.rose (ap Err is_fault) in
     record {
-      only = OnlyAt-trans c.in-Ok.ensures.only e.only;
-      named = e.stays.name ∙ c.in-Ok.ensures.name;
-      later = let x = c.in-Ok.ensures.cause.later in let y = e.later in omega arith;
+      only = OnlyAt-trans c.in-Ok.ensures.only e.reads.only;
+      named = e.reads.stays.name ∙ c.in-Ok.ensures.name;
+      later = let x = c.in-Ok.ensures.cause.later in let y = e.reads.later in omega arith;
       ready = tt;
       live = tt;
       begun = tt;
@@ -71,6 +67,6 @@ returns-in_default g c =
         (let x = c.in-Ok.ensures.cause.later in omega arith),
         λ told ready.
             let b = e.fault (ap Err is_fault) (told_on c.in-Ok.ensures.only told) in
-            (b.front, b.short, ap (λ o. unwrap_or o []) (c.in-Ok.ensures.bytes told) ∙ b.is),
+            (b.prefix, b.short, ap (λ o. unwrap_or o []) (c.in-Ok.ensures.bytes told) ∙ b.is),
       );
     }

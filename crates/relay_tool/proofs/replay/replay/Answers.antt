@@ -1,11 +1,9 @@
-use Rattle.std.proofs.Common.{◌∙◌, ◌++◌, refl, sym, ap, subst}
+use Rattle.std.proofs.Common.{◌∙◌, refl, sym, ap}
 use Rattle.room_io.specs.Room.{RoomState}
-use Rattle.capture_feed.specs.Block.{pending}
 use Rattle.relay_settings.specs.Settings.{plain_line}
 use Rattle.relay_tool.specs.Ends.{ending_of}
 use Rattle.relay_tool.specs.Asking.{names_of_files}
 use Rattle.relay_tool.specs.Alone.{alone}
-use Rattle.relay_tool.specs.Steps.{TreatsAll}
 use Rattle.relay_tool.proofs.Stages.{Replays-settings, Replays-unbuilt, Replays-memory, Replays-capture, Replays-outputs, Replays-header, Replays-records, replays-by, opened}
 use Rattle.relay_tool.proofs.replay.replay.Goals as goal
 
@@ -45,14 +43,10 @@ pub returns : goal.returns
 returns g c =
     let live = c.in-Ok-open_capture.ensures.live in
     let settings = alone c.in-Ok.settings.common (plain_line c.in-Ok-built_line.one.now) in
-    let feed = c.open_capture.new.feed in
-    let whole = pending feed.block ++ (g.R.Room.state c.write_header.new.room).capture.bytes in
     Replays-records _ (ending_of c.treat_counted.result)
     (opened (names_of_files c.args.files.now) settings c.requires.unused c.in-Ok.ensures
     (replays-by (names_of_files c.args.files.now) c.in-Ok.settings c.in-Ok-built_line.one.now c.in-Ok.ensures c.in-Ok-built_line.ensures.built.0 c.in-Ok-built_line.ensures.built.1) c.in-Ok-open_capture.ensures c.in-Ok-open_outputs.ensures) c.in-Ok-write_header.ensures
-    (subst (λ taken. TreatsAll settings feed.is_big _ taken whole (g.R.Room.state c.write_header.new.room) (g.R.Room.state c.treat_counted.new.room) (ending_of c.treat_counted.result)) live.2
-    (subst (λ limit. TreatsAll settings feed.is_big limit feed.taken whole (g.R.Room.state c.write_header.new.room) (g.R.Room.state c.treat_counted.new.room) (ending_of c.treat_counted.result)) live.1
-    (c.treat_counted.ensures c.in-Ok.settings.common (plain_line c.in-Ok-built_line.one.now) c.in-Ok-new-2.ensures.0 (sym c.as_slice.ensures.value))))
+    (c.treat_counted.ensures c.in-Ok.settings.common (plain_line c.in-Ok-built_line.one.now) c.in-Ok-new-2.ensures.0 (sym c.as_slice.ensures.value))
 
 pub treat_counted-requires-clause-live : goal.treat_counted-requires-clause-live
 treat_counted-requires-clause-live g c = c.in-Ok-open_capture.ensures.live.0
