@@ -3,7 +3,8 @@ use Rattle.std.proofs.Common.{◌≡◌, ℕ, ◌+◌, ◌-◌, ◌<◌, ◌≤�
 use Rattle.std.proofs.lemmas.List.{length-map, get_or-map, get_or_default}
 use Rattle.relay_num.specs.WeightedSums.{weighted_sum, lane, real_weight, imaginary_weight}
 use Rattle.relay_num.proofs.WeightedSumLaws.{weighted_sum_size}
-use Rattle.lanes.specs.Lanes.{AllBelow, sums, differences, multiples}
+use Rattle.relay_num.specs.Bounds.{AllBelow}
+use Rattle.lanes.specs.Lanes.{sums, differences, multiples}
 use Rattle.std.proofs.lemmas.Simd.{length-zip2, get_or-replicate}
 use borrow.Author.Tests.{ltb-false}
 use Rattle.cycle_phasor.specs.Sliding.{AreSumsOf, slid, values_left}

@@ -7,15 +7,16 @@
 //! scale is 16384, and a phasor is the sums divided by 2^19, rounded down.
 //!
 //! `specs/Sliding.antt` says what a slide does, and `specs/Window.antt` that the sums are those of the
-//! window that a ring holds (`IsSliding`); `proofs/` has the laws that keep it so from one sample to
-//! the next. It stands on `lanes`, and in those laws on the ring of `sample_ring`.
+//! window that a ring holds (`IsSliding`); `take_values` takes a sample into both and keeps it so. It stands on
+//! `lanes` for the sums, on `sample_ring` for the ring, and on `relay_num` for the table and the steps.
 #![tactic(auto)]
 
 ghost use Rattle.std.specs.Prelude.{◌≡◌, ◌<◌, ◌≤◌, ◌+◌, ◌^◌, ◌⊎◌, ◌↔◌, min, IsSome, IsNone, IfSome, replicate, pos, length, ℕ, ℤ, neg_ℤ};
 ghost use Rattle.std.specs.Option.{option_copied};
 ghost use Rattle.std.specs.Int.RustNames.{unsigned_abs};
 ghost use Rattle.relay_num.specs.Waves.{cosine, sine};
-ghost use Rattle.lanes.specs.Lanes.{AllBelow, sums, multiples};
+ghost use Rattle.relay_num.specs.Bounds.{AllBelow};
+ghost use Rattle.lanes.specs.Lanes.{sums, multiples};
 ghost use Rattle.cycle_phasor.specs.Sliding.{values_left, slid, floored};
 
 use lanes::{difference8, multiple8, sum8};
@@ -23,6 +24,9 @@ use relay_num::{Cx, floor_shift, wave};
 
 #[cfg(test)]
 mod tests;
+mod window;
+
+pub use window::take_values;
 
 /// The sums of a window of samples in eight channels: the recursive form of the full-cycle Fourier
 /// filter (Phadke and Thorp, Computer Relaying for Power Systems).

@@ -1,35 +1,14 @@
 //! Worked rows: waves at the table's own scale, the greatest sum, and a constant that starts within a cycle.
-ghost use Rattle.std.specs.Prelude.{◌≡◌, ◌+◌, ◌^◌, ◌<◌, ◌≤◌, ◌⊎◌, ◌∷◌, ◌++◌, [], ℕ, IfOk};
-ghost use Rattle.circular_buffer.specs.Buffer.{keep_last};
-ghost use Rattle.lanes.specs.Lanes.{AllBelow};
+ghost use Rattle.std.specs.Prelude.{◌≡◌, ◌+◌, ◌^◌, ◌<◌, ◌≤◌, ◌⊎◌, ℕ, IfOk};
+ghost use Rattle.relay_num.specs.Bounds.{AllBelow};
 ghost use Rattle.cycle_phasor.specs.Window.{IsSliding};
 
-use crate::Slider;
+use crate::{Slider, take_values};
 use relay_num::{Cx, NoMemory, Steps, open_steps, wave};
 use sample_ring::History;
 use std::alloc::Global;
 use std::marker::Brand;
 use std::sync::ledger::{Blank, Ledger};
-
-/// Takes the values of the sample with the number `next`.
-fn take<L: Ledger>(
-    ring: &mut History<[i64; 8]>,
-    slider: &mut Slider,
-    next: u64,
-    values: &[i64; 8],
-    steps: &mut Steps<L>,
-)
-    requires n { (slider.old.n ≡ 80) ⊎ (slider.old.n ≡ 96) }
-    requires state { IsSliding slider.old.n next ring.old slider.old }
-    requires values { AllBelow values.now (2 ^ 28) }
-    ensures state { IsSliding slider.old.n (next + 1) ring.new slider.new }
-    ensures items { ring.new.items ≡ keep_last slider.old.n (ring.old.items ++ values.now ∷ []) }
-    ensures cost { steps.new ≡ steps.old + 1 }
-{
-    let place = next % u64::from(slider.n);
-    let old = ring.push(*values, steps);
-    slider.slide(place as u32, values, old.as_ref());
-}
 
 /// An empty window for `n` samples a cycle.
 fn start(alloc: Global, n: u32) -> Result<(History<[i64; 8]>, Slider), NoMemory>
@@ -79,7 +58,7 @@ fn run<L: Ledger>(
     ensures state { IsSliding slider.old.n end ring.new slider.new }
 {
     for next in first..end {
-        take(ring, slider, next, &values_of(what, next), steps);
+        take_values(ring, slider, next, next, Some(values_of(what, next)), steps);
     }
 }
 

@@ -1,19 +1,19 @@
-//! The window of good samples whose numbers follow one another, and its sums.
+//! A window of samples whose numbers follow one another, in a ring, and the sums that slide along it.
 ghost use Rattle.std.specs.Prelude.{ℕ, ◌≡◌, ◌+◌, ◌≤◌, ◌^◌, ◌⊎◌, ◌==◌, ◌++◌, ◌∷◌, if◌then◌else◌, []};
 ghost use Rattle.circular_buffer.specs.Buffer.{keep_last};
-ghost use Rattle.lanes.specs.Lanes.{AllBelow};
+ghost use Rattle.relay_num.specs.Bounds.{AllBelow};
 ghost use Rattle.cycle_phasor.specs.Sliding.{values_left};
-ghost use Rattle.cycle_phasor.specs.Window.{IsSliding};
-ghost use Rattle.line_relay.specs.Windows.{window_with};
+ghost use Rattle.cycle_phasor.specs.Window.{IsSliding, window_with};
 
-use cycle_phasor::Slider;
+use crate::Slider;
 use relay_num::Steps;
 use sample_ring::History;
 use std::sync::ledger::Ledger;
 
-/// Takes the values at this number into the window, whose run would go on with the number `next`. A
-/// number that doesn't follow begins a new run, and no values end it.
-pub fn note<L: Ledger>(
+/// Takes the values at this number into the window and its sums. The window's run would go on with the number
+/// `next`: another number begins a new run, and no values end the run. The window holds the newest values of the
+/// run, at most a cycle of them, each below 2^28 in size. It is looked at once at most, for the values that leave.
+pub fn take_values<L: Ledger>(
     ring: &mut History<[i64; 8]>,
     slider: &mut Slider,
     next: u64,

@@ -9,7 +9,9 @@ use Rattle.relay_num.proofs.Signed.{signed, one_part, size-product, size-sum, si
 use lib.Signed.{shr_z, lt_z}
 use Rattle.std.specs.Int.{int_min, int_max}
 use Rattle.relay_num.specs.Numbers.{floor_div}
-use Rattle.lanes.specs.Lanes.{AllBelow, sums, differences, multiples}
+use Rattle.relay_num.specs.Bounds.{AllBelow}
+use Rattle.lanes.specs.Lanes.{sums, differences, multiples, quotients}
+use Rattle.std.proofs.Math.Nat.{div-le_self}
 
 -- an operation on bits that is g on the numbers of each pair of lanes
 pub lanes_are : (f : ℕ → ℕ → ℕ) (g : ℤ → ℤ → ℤ) (R : ℤ → ℤ → Type 0) → ((x y : ℤ) → R x y → to_z w64 (f (of_z w64 x) (of_z w64 y)) ≡ g x y) → (xs ys : List ℤ) → Each2 R xs ys → map (to_z w64) (zip2 f (map (of_z w64) xs) (map (of_z w64) ys)) ≡ zip2 g xs ys
@@ -39,6 +41,19 @@ wrapped_product x y b = wrapping_mul_is w64 x y (fits_signed_from_abs w64 x (ome
 pub AllBelow-replicate : (n : ℕ) (k : ℤ) (m : ℕ) → unsigned_abs k < m → AllBelow (replicate n k) m
 AllBelow-replicate n k m h i d lt = rw (get_or-replicate n i k d (omega (arith, length-replicate n k))) h
 
+pub AllBelow-eight : (m : ℕ) (a b c d e f g h : ℤ) → unsigned_abs a < m → unsigned_abs b < m → unsigned_abs c < m → unsigned_abs d < m →
+    unsigned_abs e < m → unsigned_abs f < m → unsigned_abs g < m → unsigned_abs h < m → AllBelow (a ∷ b ∷ c ∷ d ∷ e ∷ f ∷ g ∷ h ∷ []) m
+AllBelow-eight m a b c d e f g h ha hb hc hd he hf hg hh =
+    push a (b ∷ c ∷ d ∷ e ∷ f ∷ g ∷ h ∷ []) ha (push b (c ∷ d ∷ e ∷ f ∷ g ∷ h ∷ []) hb (push c (d ∷ e ∷ f ∷ g ∷ h ∷ []) hc
+    (push d (e ∷ f ∷ g ∷ h ∷ []) hd (push e (f ∷ g ∷ h ∷ []) he (push f (g ∷ h ∷ []) hf (push g (h ∷ []) hg (push h [] hh none)))))))
+  where
+    none : AllBelow [] m
+    none i x lt = absurd (omega arith)
+
+    push : (x : ℤ) (xs : List ℤ) → unsigned_abs x < m → AllBelow xs m → AllBelow (x ∷ xs) m
+    push x xs h below zero d lt = h
+    push x xs h below (suc i) d lt = below i d (omega arith)
+
 pub AllBelow-weaker : (xs : List ℤ) (m n : ℕ) → AllBelow xs m → m ≤ n → AllBelow xs n
 AllBelow-weaker xs m n h k i d lt = omega (arith, h i d lt)
 
@@ -60,25 +75,25 @@ AllBelow-left xs ys m n e h k i d lt =
     let total = rw (get_or-zip2 (λ x y. x +ℤ y) xs ys i d d d lt (omega arith)) at (h i d (omega arith)) in
     size_left (get_or xs i d) (get_or ys i d) m n total (k i d (omega arith))
 
-pub record Shifted (x y : ℤ) : Type 0 where
+pub record Shifted (bits : ℕ) (x y : ℤ) : Type 0 where
   pub fits : FitsSigned w64 x
-  pub by_ten : y ≡ pos 10
+  pub by_bits : y ≡ pos bits
 
-pub floor_div_fits : (x : ℤ) → FitsSigned w64 x → FitsSigned w64 (floor_div x 1024)
-floor_div_fits (pos n) f = record { sfits = omega (arith, f.sfits) }
-floor_div_fits (negsuc n) f = record { sfits = omega (arith, f.sfits) }
+pub floor_div_fits : (x : ℤ) (m : ℕ) → FitsSigned w64 x → FitsSigned w64 (floor_div x m)
+floor_div_fits (pos n) m f = record { sfits = omega (arith, f.sfits, div-le_self n m) }
+floor_div_fits (negsuc n) m f = record { sfits = omega (arith, f.sfits, div-le_self n m) }
 
-shr_is : (x : ℤ) → shr_z x 1024 ≡ floor_div x 1024
-shr_is (pos n) = refl
-shr_is (negsuc n) = refl
+shr_is : (x : ℤ) (m : ℕ) → shr_z x m ≡ floor_div x m
+shr_is (pos n) m = refl
+shr_is (negsuc n) m = refl
 
-pub shifted : (x y : ℤ) → Shifted x y → to_z w64 (of_z w64 (shr_z (to_z w64 (of_z w64 x)) (2 ^ of_z w64 y))) ≡ floor_div x 1024
-shifted x y s = rw (s.by_ten, to_z-of_z s.fits, shr_is x) (to_z-of_z (floor_div_fits x s.fits))
+pub shifted : (bits : ℕ) (x y : ℤ) → Shifted bits x y → to_z w64 (of_z w64 (shr_z (to_z w64 (of_z w64 x)) (2 ^ of_z w64 y))) ≡ floor_div x (2 ^ bits)
+shifted bits x y s = rw (s.by_bits, to_z-of_z s.fits, shr_is x (2 ^ bits)) (to_z-of_z (floor_div_fits x (2 ^ bits) s.fits))
 
-pub all_shifted : (xs : List ℤ) (n : ℕ) → Each1 (FitsSigned w64) xs → Each2 Shifted xs (replicate n (pos 10))
-all_shifted [] n h = tt
-all_shifted (x ∷ xs) zero h = tt
-all_shifted (x ∷ xs) (suc n) h = (record { fits = h.0; by_ten = refl }, all_shifted xs n h.1)
+pub all_shifted : (bits : ℕ) (xs : List ℤ) (n : ℕ) → Each1 (FitsSigned w64) xs → Each2 (Shifted bits) xs (replicate n (pos bits))
+all_shifted bits [] n h = tt
+all_shifted bits (x ∷ xs) zero h = tt
+all_shifted bits (x ∷ xs) (suc n) h = (record { fits = h.0; by_bits = refl }, all_shifted bits xs n h.1)
 
 pub Each1-fits : (xs : List ℤ) → AllBelow xs (2 ^ 62) → Each1 (FitsSigned w64) xs
 Each1-fits xs h = Each1-from_get_or (FitsSigned w64) xs (pos 0) (λ i lt. fits_signed_from_abs w64 (get_or xs i (pos 0)) (omega (arith, h i (pos 0) lt)))
@@ -122,12 +137,12 @@ max_lanes (x ∷ xs) (suc n) k e h g =
     ap (λ z. z ∷ map (to_z w64) (sel_l (map (top 63) (zip2 mask_lane (map (of_z w64) xs) (map (of_z w64) (replicate n k)))) (map (of_z w64) (replicate n k)) (map (of_z w64) xs))) (greater x k h.0 g)
     ∙ ap (λ zs. int_max x k ∷ zs) (max_lanes xs n k (omega (arith, e)) h.1 g)
 
-size_floor : (x : ℤ) (m : ℕ) → unsigned_abs x < m → unsigned_abs (floor_div x 1024) < m
-size_floor (pos n) m h = omega arith
-size_floor (negsuc n) m h = omega arith
+size_floor : (x : ℤ) (k m : ℕ) → unsigned_abs x < m → unsigned_abs (floor_div x k) < m
+size_floor (pos n) k m h = omega (arith, div-le_self n k)
+size_floor (negsuc n) k m h = omega (arith, div-le_self n k)
 
-pub AllBelow-floor : (xs : List ℤ) (m : ℕ) → AllBelow xs m → AllBelow (map (λ x. floor_div x 1024) xs) m
-AllBelow-floor xs m h = All-map (λ x. unsigned_abs x < m) (λ x. floor_div x 1024) xs (λ i d lt. size_floor (get_or xs i d) m (h i d lt))
+pub AllBelow-floor : (xs : List ℤ) (k m : ℕ) → AllBelow xs m → AllBelow (quotients xs k) m
+AllBelow-floor xs k m h = All-map (λ x. unsigned_abs x < m) (λ x. floor_div x k) xs (λ i d lt. size_floor (get_or xs i d) k m (h i d lt))
 
 size_min : (x k : ℤ) (m : ℕ) → unsigned_abs x < m → unsigned_abs k < m → unsigned_abs (int_min x k) < m
 size_min x k m h g = go (lt_z k x)

@@ -3,12 +3,13 @@
 //! Each call is one operation of a vector, and each says what it gives in whole numbers of any size,
 //! lane by lane; its conditions are the sizes up to which 64 bits hold that. It takes no memory. It
 //! stands on the vectors of std, and on `relay_num` for division that rounds down.
-//! `specs/Lanes.antt` has the words: `AllBelow`, `sums`, `differences`, `multiples`.
+//! `specs/Lanes.antt` has the words: `sums`, `differences`, `multiples`, `quotients`.
 #![tactic(auto)]
 
 ghost use Rattle.std.specs.Prelude.{◌≡◌, ◌<◌, ◌^◌};
 ghost use Rattle.std.specs.Int.RustNames.{unsigned_abs};
-ghost use Rattle.lanes.specs.Lanes.{AllBelow, sums, differences, multiples, quotients, at_most, at_least};
+ghost use Rattle.relay_num.specs.Bounds.{AllBelow};
+ghost use Rattle.lanes.specs.Lanes.{sums, differences, multiples, quotients, at_most, at_least};
 
 use std::simd::prelude::*;
 
@@ -42,13 +43,15 @@ pub fn multiple8(a: &[i64; 8], k: i64) -> [i64; 8]
     (i64x8::from_array(*a) * i64x8::splat(k)).to_array()
 }
 
-/// Each lane divided by 1024, rounded down. Condition: the values are below 2^62 in size.
+/// Each lane divided by `2 ^ bits`, rounded down, also below 0. Condition: the values are below 2^62 in size,
+/// and `bits` is at most 62.
 #[inline(always)]
-pub fn floor_shift8(a: &[i64; 8]) -> [i64; 8]
-    requires { AllBelow a.now (2 ^ 62) }
-    ensures { result ≡ quotients a.now }
+pub fn floor_shift8(a: &[i64; 8], bits: u32) -> [i64; 8]
+    requires a { AllBelow a.now (2 ^ 62) }
+    requires bits { bits < 63 }
+    ensures { result ≡ quotients a.now (2 ^ bits) }
 {
-    (i64x8::from_array(*a) >> 10).to_array()
+    (i64x8::from_array(*a) >> i64::from(bits)).to_array()
 }
 
 /// Each lane, or `most` where the lane is greater. Condition: the values are below 2^62 in size.

@@ -15,7 +15,7 @@ use Rattle.relay_num.specs.declared.Cx.{Cx}
 use Rattle.relay_num.proofs.Signed.{signed}
 use Rattle.relay_num.proofs.Wide.{complex, same_parts}
 use Rattle.relay_num.proofs.WeightedSumLaws.{weighted_sum-push}
-use Rattle.lanes.specs.Lanes.{AllBelow}
+use Rattle.relay_num.specs.Bounds.{AllBelow}
 use Rattle.cycle_phasor.specs.Sliding.{AreSumsOf, floored}
 use Rattle.cycle_phasor.specs.declared.Slider.{Slider}
 use Rattle.cycle_phasor.specs.Window.{IsSliding}
@@ -25,7 +25,8 @@ use Rattle.sample_windows.proofs.WindowLemmas.{length-at_each}
 use Rattle.relay_settings.specs.declared.types.Mimic.{Mimic}
 use Rattle.line_relay.specs.Samples.{newest_of, Numbered, number_of_sample, good_now, values_now, is_ready, needed}
 use Rattle.line_relay.specs.Phasors.{filtered_at, sum_below, cycle_sum, phasor_of, phasors_of, eight}
-use Rattle.line_relay.specs.Windows.{next_after, lanes_now, window, kept_now, filter_after, lanes_after, window_with}
+use Rattle.line_relay.specs.Windows.{next_after, lanes_now, window, kept_now, filter_after, lanes_after}
+use Rattle.cycle_phasor.specs.Window.{window_with}
 
 module _ {X : Type 0} where
   reverse-cons : (x : X) (xs : List X) → reverse (x ∷ xs) ≡ reverse xs ++ x ∷ []

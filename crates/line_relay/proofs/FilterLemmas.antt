@@ -6,7 +6,7 @@ use Rattle.std.proofs.lemmas.Simd.{get_or-zip2, length-zip2}
 use Rattle.relay_num.proofs.Signed.{signed, one_part}
 use Rattle.relay_num.specs.Numbers.{floor_div}
 use Rattle.relay_settings.specs.Ranges.{IsWhole}
-use Rattle.lanes.specs.Lanes.{AllBelow}
+use Rattle.relay_num.specs.Bounds.{AllBelow}
 use Rattle.mimic_filter.specs.Mimic.{filtered, filtered_lanes}
 
 limited_below : (z : ℤ) → unsigned_abs (int_max (int_min z (pos 268435455)) (neg_ℤ (pos 268435455))) < 2 ^ 28

@@ -1,6 +1,6 @@
 -- What a front keeps of the samples: the filtered values of the last run of good ones, at most a cycle, and what the
 -- mimic filter needs at the next number. No definition of what a line says speaks of these.
-use Rattle.std.specs.Prelude.{ℕ, ◌+◌, ◌-◌, ◌==◌, Bool, ◌||◌, if◌then◌else◌, List, [], ◌∷◌, ◌++◌, Option, Some, None, ℤ, take, drop, reverse}
+use Rattle.std.specs.Prelude.{ℕ, ◌+◌, ◌-◌, Bool, if◌then◌else◌, List, [], ◌∷◌, Option, Some, None, ℤ, take, drop, reverse}
 use Rattle.sample_windows.specs.Windows.{at_each}
 use Rattle.sample_windows.specs.Numbered.{run_of}
 use Rattle.circular_buffer.specs.Buffer.{keep_last}
@@ -8,9 +8,6 @@ use Rattle.relay_settings.specs.declared.types.Mimic.{Mimic}
 use Rattle.sample_stream.specs.declared.sample.Sample.{Sample}
 use Rattle.mimic_filter.specs.Mimic.{filtered_lanes}
 use Rattle.line_relay.specs.Samples.{Numbered, number_of_sample, good_now, values_now, needed}
-
-abbrev pub is_cycle : ℕ → Bool
-is_cycle n = n == 80 || n == 96
 
 -- the number that follows the last one
 abbrev pub next_after : Option ℕ → ℕ
@@ -43,8 +40,3 @@ filter_after (Some m) (Some before) values = Some (filtered_lanes m.a m.b values
 
 abbrev pub lanes_after : Option Mimic → Option (List ℤ) → Bool → Sample → Option (List ℤ)
 lanes_after mimic before follows sample = if sample.good then filter_after mimic (if follows then before else None) sample.values else None
-
--- the window after a sample with these filtered values, or with none
-abbrev pub window_with : ℕ → Bool → Option (List ℤ) → List (List ℤ) → List (List ℤ)
-window_with n follows None items = []
-window_with n follows (Some lanes) items = keep_last n ((if follows then items else []) ++ lanes ∷ [])

@@ -1,7 +1,7 @@
 //! The filtered values of a sample, and what the mimic filter needs at the next.
 ghost use Rattle.std.specs.Prelude.{◌≡◌, ◌^◌};
 ghost use Rattle.std.specs.Option.{ForSome};
-ghost use Rattle.lanes.specs.Lanes.{AllBelow};
+ghost use Rattle.relay_num.specs.Bounds.{AllBelow};
 ghost use Rattle.cycle_phasor.specs.Sliding.{values_left};
 ghost use Rattle.relay_settings.specs.Ranges.{IsMimic};
 ghost use Rattle.line_relay.specs.Windows.{lanes_after, kept_values};

@@ -1,15 +1,14 @@
 //! The front of a line: which sample sets are taken, which samples are good, and the phasors of a whole cycle of them.
 ghost use Rattle.std.specs.Prelude.{◌≡◌, ◌^◌, true};
 ghost use Rattle.std.specs.Option.{ForSome};
-ghost use Rattle.lanes.specs.Lanes.{AllBelow};
+ghost use Rattle.relay_num.specs.Bounds.{AllBelow, is_cycle};
 ghost use Rattle.cycle_phasor.specs.Sliding.{values_left};
 ghost use Rattle.cycle_phasor.specs.Window.{IsSliding};
 ghost use Rattle.relay_settings.specs.Ranges.{IsMimic};
-ghost use Rattle.line_relay.specs.Windows.{is_cycle, next_after};
+ghost use Rattle.line_relay.specs.Windows.{next_after};
 
 use crate::filter::{filtered, kept};
-use crate::window::note;
-use cycle_phasor::Slider;
+use cycle_phasor::{Slider, take_values};
 use relay_num::{Cx, NoMemory, Steps};
 use relay_settings::{Common, LineSettings, Mimic};
 use sample_ring::History;
@@ -143,7 +142,7 @@ impl Front {
         let sample = sample_of(&channels, self.quality_mask, a.synch, self.synch_min);
         let values = filtered(self.mimic, self.before, number == next, &sample);
         self.before = kept(self.mimic, &sample);
-        note(
+        take_values(
             &mut self.ring,
             &mut self.slider,
             next,

@@ -20,7 +20,6 @@ mod laws;
 mod line;
 #[cfg(test)]
 mod tests;
-mod window;
 mod zone;
 
 pub use front::{Front, Outcome, Step};

@@ -8,16 +8,17 @@
 
 ghost use Rattle.std.specs.Prelude.{◌≡◌, ◌≤◌, ◌^◌};
 ghost use Rattle.std.specs.Int.RustNames.{unsigned_abs};
-ghost use Rattle.lanes.specs.Lanes.{AllBelow};
+ghost use Rattle.relay_num.specs.Bounds.{AllBelow};
 ghost use Rattle.mimic_filter.specs.Mimic.{filtered_lanes};
 
 use lanes::{at_least8, at_most8, difference8, floor_shift8, multiple8};
+use relay_num::MOST_VALUE;
 
 #[cfg(test)]
 mod tests;
 
-/// The greatest value of a sample.
-const MOST: i64 = 268_435_455;
+/// The factors are in parts of 2 to this power, 1024.
+const FACTOR_BITS: u32 = 10;
 
 /// The filtered value in each lane: `(a * now - b * before) / 1024` rounded down, and then limited to
 /// the range of a sample's value, at most 2^28 - 1 in size. The factors are at most 65536 in size, and
@@ -30,5 +31,6 @@ pub fn mimic8(a: i64, b: i64, now: &[i64; 8], before: &[i64; 8]) -> [i64; 8]
     ensures { result ≡ filtered_lanes a b now.now before.now }
 {
     let step = difference8(&multiple8(now, a), &multiple8(before, b));
-    at_least8(&at_most8(&floor_shift8(&step), MOST), -MOST)
+    let filtered = floor_shift8(&step, FACTOR_BITS);
+    at_least8(&at_most8(&filtered, MOST_VALUE), -MOST_VALUE)
 }

@@ -3,7 +3,7 @@ use Rattle.cycle_phasor.specs.Window.{IsSample}
 use Rattle.relay_num.specs.WeightedSums.{real_weight, imaginary_weight}
 use Rattle.relay_num.proofs.WaveLemmas.{real_weight-repeats, imaginary_weight-repeats, real_weight_bound, imaginary_weight_bound}
 use Rattle.cycle_phasor.proofs.WindowLemmas.{moves, length-keep_last, samples_kept}
-use Rattle.line_relay.proofs.window.slide.Goals as goal
+use Rattle.cycle_phasor.proofs.window.slide.Goals as goal
 
 pub slide-requires-clause-re : goal.slide-requires-clause-re
 slide-requires-clause-re g c =

@@ -11,7 +11,8 @@ use Rattle.cycle_phasor.specs.Window.{IsSliding}
 use Rattle.line_relay.specs.declared.front.Outcome.TheVariants.{Counter}
 use Rattle.line_relay.specs.Samples.{newest_of, Numbered, number_of_sample}
 use Rattle.line_relay.specs.Phasors.{phasors_of}
-use Rattle.line_relay.specs.Windows.{is_cycle, next_after, window, lanes_after, kept_now}
+use Rattle.relay_num.specs.Bounds.{is_cycle}
+use Rattle.line_relay.specs.Windows.{next_after, window, lanes_after, kept_now}
 use Rattle.line_relay.specs.Outcomes.{number_taken, sample_in, with_sample, taken_samples, taken_number, outcome_of}
 use Rattle.line_relay.specs.Steps.{step_by, step_of}
 use Rattle.line_relay.specs.Fronts.{StandsFor}
@@ -69,8 +70,8 @@ module _ (g : given.Over) (c : goal.After-phasors g) where
     values : c.filtered-values.result ≡ lanes_after settings.mimic (kept_now settings.mimic older) (c.in-Some-number.number == next_after (newest_of older)) (sample_in common settings a)
     values = c.filtered-values.ensures.lanes ∙ rw (next, stands.last, sample, stands.same_mimic, stands.before) refl
 
-    items : c.note.new.ring.items ≡ window common.n settings.mimic (newest ∷ older)
-    items = c.note.ensures.items
+    items : c.take_values.new.ring.items ≡ window common.n settings.mimic (newest ∷ older)
+    items = c.take_values.ensures.items
         ∙ rw (values, cycle, next, stands.last, stands.items) refl
         ∙ sym (window_next common.n settings.mimic newest older)
 
@@ -80,11 +81,11 @@ module _ (g : given.Over) (c : goal.After-phasors g) where
     kept : c.kept-self.result ≡ kept_now settings.mimic (newest ∷ older)
     kept = c.kept-self.ensures.kept ∙ rw (sample, stands.same_mimic) refl
 
-    sliding : IsSliding common.n (c.in-Some-number.number + 1) c.note.new.ring c.note.new.slider
-    sliding = subst (λ n. IsSliding n (c.in-Some-number.number + 1) c.note.new.ring c.note.new.slider) cycle c.note.ensures.state
+    sliding : IsSliding common.n (c.in-Some-number.number + 1) c.take_values.new.ring c.take_values.new.slider
+    sliding = subst (λ n. IsSliding n (c.in-Some-number.number + 1) c.take_values.new.ring c.take_values.new.slider) cycle c.take_values.ensures.state
 
     phasors : c.phasors.result ≡ phasors_of common.n settings.mimic (newest ∷ older)
-    phasors = phasors_are common.n settings.mimic (newest ∷ older) c.note.new.ring c.note.new.slider rising (subst AllEight newer (eights common settings (a ∷ asdus))) some sliding items
+    phasors = phasors_are common.n settings.mimic (newest ∷ older) c.take_values.new.ring c.take_values.new.slider rising (subst AllEight newer (eights common settings (a ∷ asdus))) some sliding items
         c.phasors.result c.phasors.ensures.lanes_re c.phasors.ensures.lanes_im c.phasors.ensures.none c.phasors.ensures.some
 
     told : step_of common settings a asdus ≡ step_by common settings (Counter c.take-taken.result) (Some c.in-Some-number.number) a (newest ∷ older)
@@ -114,8 +115,8 @@ returns-clause-after g c common settings asdus stands = record {
 
 pub returns-clause-small : goal.returns-clause-small
 returns-clause-small g c =
-    let state = c.note.ensures.state in
-    let few : length c.note.new.ring.items ≤ 96 = omega (arith, state.few, cycle_few c.args.self.now.slider.n (subst (λ n. is_cycle n ≡ true) (sym c.args.self.now.sliding.cycle) c.args.self.now.cycle)) in
-    let re = totals_below c.note.new.slider.re (real_weight c.args.self.now.slider.n) _ c.note.new.ring.items (real_weight_bound c.args.self.now.slider.n) few state.samples c.phasors.ensures.lanes_re state.re in
-    let im = totals_below c.note.new.slider.im (imaginary_weight c.args.self.now.slider.n) _ c.note.new.ring.items (imaginary_weight_bound c.args.self.now.slider.n) few state.samples c.phasors.ensures.lanes_im state.im in
-    phasors_small c.phasors.result c.note.new.slider.re c.note.new.slider.im c.phasors.ensures.some c.phasors.ensures.lanes_re c.phasors.ensures.lanes_im re im
+    let state = c.take_values.ensures.state in
+    let few : length c.take_values.new.ring.items ≤ 96 = omega (arith, state.few, cycle_few c.args.self.now.slider.n (subst (λ n. is_cycle n ≡ true) (sym c.args.self.now.sliding.cycle) c.args.self.now.cycle)) in
+    let re = totals_below c.take_values.new.slider.re (real_weight c.args.self.now.slider.n) _ c.take_values.new.ring.items (real_weight_bound c.args.self.now.slider.n) few state.samples c.phasors.ensures.lanes_re state.re in
+    let im = totals_below c.take_values.new.slider.im (imaginary_weight c.args.self.now.slider.n) _ c.take_values.new.ring.items (imaginary_weight_bound c.args.self.now.slider.n) few state.samples c.phasors.ensures.lanes_im state.im in
+    phasors_small c.phasors.result c.take_values.new.slider.re c.take_values.new.slider.im c.phasors.ensures.some c.phasors.ensures.lanes_re c.phasors.ensures.lanes_im re im
