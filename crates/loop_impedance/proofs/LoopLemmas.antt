@@ -1,12 +1,15 @@
 -- Sizes of loop voltages and currents, and the sums of products as the code forms them in 64 bits.
-use Rattle.std.proofs.Common.{◌≡◌, ◌+◌, ◌*◌, ◌^◌, ◌<◌, ◌≤◌, ℕ, ℤ, pos, ◌+ℤ◌, ◌-ℤ◌, ◌*ℤ◌, arith, lit≤, unsigned_abs, to_z, of_z, to_z-of_z, FitsSigned}
+use Rattle.std.proofs.Common.{refl, ◌≡◌, ◌+◌, ◌*◌, ◌^◌, ◌<◌, ◌≤◌, ℕ, ℤ, pos, ◌+ℤ◌, ◌-ℤ◌, ◌*ℤ◌, arith, lit≤, unsigned_abs, to_z, of_z, to_z-of_z, FitsSigned}
 use Rattle.std.specs.Int.{w64}
 use Rattle.std.proofs.lemmas.Int.{fits_signed_from_abs}
 use Rattle.relay_num.specs.declared.Cx.{Cx}
 use Rattle.relay_num.specs.Numbers.{IsBelow, sum, difference, scaled, product, turned, turned_back}
 use Rattle.relay_num.proofs.Signed.{signed, one_part, size-product, size-sum, size-difference}
 use Rattle.relay_num.proofs.Wide.{IsBelow-product, IsBelow-weaker}
+use Rattle.relay_num.specs.Bounds.{AllBelow}
+use Rattle.lanes.proofs.LaneLemmas.{AllBelow-eight}
 use Rattle.loop_impedance.specs.Loops.{ground_current, voltages_of, currents_of, AreLoopsBelow}
+use Rattle.loop_impedance.specs.LoopLanes.{between_lanes, compensated_lanes, joined_lanes}
 
 -- what the code holds of z
 abbrev pub held : ℤ → ℤ
@@ -15,43 +18,32 @@ held z = to_z w64 (of_z w64 z)
 pub fits_64 : (z : ℤ) (m : ℕ) → unsigned_abs z < m → m ≤ 2 ^ 63 → FitsSigned w64 z
 fits_64 z m h k = fits_signed_from_abs w64 z (omega arith)
 
--- a part of a ground loop's current: a thousand times p of the phase, and k x - l y or k x + l y of the compensation
-pub record Part (p k x l y : ℤ) : Type 0 where
+-- a part of the compensation: k x - l y or k x + l y
+pub record Part (k x l y : ℤ) : Type 0 where
   pub first : FitsSigned w64 (held k *ℤ held x)
   pub second : FitsSigned w64 (held l *ℤ held y)
   pub less : FitsSigned w64 (held (held k *ℤ held x) -ℤ held (held l *ℤ held y))
   pub more : FitsSigned w64 (held (held k *ℤ held x) +ℤ held (held l *ℤ held y))
-  pub all_less : FitsSigned w64 (held (pos 1000 *ℤ held p) +ℤ held (held (held k *ℤ held x) -ℤ held (held l *ℤ held y)))
-  pub all_more : FitsSigned w64 (held (pos 1000 *ℤ held p) +ℤ held (held (held k *ℤ held x) +ℤ held (held l *ℤ held y)))
-  pub is_less : held (held (pos 1000 *ℤ held p) +ℤ held (held (held k *ℤ held x) -ℤ held (held l *ℤ held y))) ≡ pos 1000 *ℤ p +ℤ (k *ℤ x -ℤ l *ℤ y)
-  pub is_more : held (held (pos 1000 *ℤ held p) +ℤ held (held (held k *ℤ held x) +ℤ held (held l *ℤ held y))) ≡ pos 1000 *ℤ p +ℤ (k *ℤ x +ℤ l *ℤ y)
+  pub is_less : held (held (held k *ℤ held x) -ℤ held (held l *ℤ held y)) ≡ k *ℤ x -ℤ l *ℤ y
+  pub is_more : held (held (held k *ℤ held x) +ℤ held (held l *ℤ held y)) ≡ k *ℤ x +ℤ l *ℤ y
 
-pub part : (p k x l y : ℤ) → unsigned_abs p < 2 ^ 40 → unsigned_abs k < 2 ^ 12 → unsigned_abs x < 2 ^ 40 → unsigned_abs l < 2 ^ 12 → unsigned_abs y < 2 ^ 40 → Part p k x l y
-part p k x l y hp hk hx hl hy =
+pub part : (k x l y : ℤ) → unsigned_abs k < 2 ^ 12 → unsigned_abs x < 2 ^ 40 → unsigned_abs l < 2 ^ 12 → unsigned_abs y < 2 ^ 40 → Part k x l y
+part k x l y hk hx hl hy =
     let kx = size-product k x (2 ^ 12) (2 ^ 40) hk hx in
     let ly = size-product l y (2 ^ 12) (2 ^ 40) hl hy in
-    let tp = size-product (pos 1000) p 1001 (2 ^ 40) (omega arith) hp in
-    let less = size-difference (k *ℤ x) (l *ℤ y) _ _ kx ly in
-    let more = size-sum (k *ℤ x) (l *ℤ y) _ _ kx ly in
-    let fp : FitsSigned w64 p = fits_64 p (2 ^ 40) hp (lit≤ tt) in
     let fk : FitsSigned w64 k = fits_64 k (2 ^ 12) hk (lit≤ tt) in
     let fx : FitsSigned w64 x = fits_64 x (2 ^ 40) hx (lit≤ tt) in
     let fl : FitsSigned w64 l = fits_64 l (2 ^ 12) hl (lit≤ tt) in
     let fy : FitsSigned w64 y = fits_64 y (2 ^ 40) hy (lit≤ tt) in
     let fkx : FitsSigned w64 (k *ℤ x) = fits_64 _ _ kx (lit≤ tt) in
     let fly : FitsSigned w64 (l *ℤ y) = fits_64 _ _ ly (lit≤ tt) in
-    let ftp : FitsSigned w64 (pos 1000 *ℤ p) = fits_64 _ _ tp (lit≤ tt) in
-    let fless : FitsSigned w64 (k *ℤ x -ℤ l *ℤ y) = fits_64 _ _ less (lit≤ tt) in
-    let fmore : FitsSigned w64 (k *ℤ x +ℤ l *ℤ y) = fits_64 _ _ more (lit≤ tt) in
-    let ftless : FitsSigned w64 (pos 1000 *ℤ p +ℤ (k *ℤ x -ℤ l *ℤ y)) = fits_64 _ _ (size-sum (pos 1000 *ℤ p) (k *ℤ x -ℤ l *ℤ y) _ _ tp less) (lit≤ tt) in
-    let ftmore : FitsSigned w64 (pos 1000 *ℤ p +ℤ (k *ℤ x +ℤ l *ℤ y)) = fits_64 _ _ (size-sum (pos 1000 *ℤ p) (k *ℤ x +ℤ l *ℤ y) _ _ tp more) (lit≤ tt) in
+    let fless : FitsSigned w64 (k *ℤ x -ℤ l *ℤ y) = fits_64 _ _ (size-difference (k *ℤ x) (l *ℤ y) _ _ kx ly) (lit≤ tt) in
+    let fmore : FitsSigned w64 (k *ℤ x +ℤ l *ℤ y) = fits_64 _ _ (size-sum (k *ℤ x) (l *ℤ y) _ _ kx ly) (lit≤ tt) in
     record {
       first = simp to_z-of_z fkx;
       second = simp to_z-of_z fly;
       less = simp to_z-of_z fless;
       more = simp to_z-of_z fmore;
-      all_less = simp to_z-of_z ftless;
-      all_more = simp to_z-of_z ftmore;
       is_less = simp to_z-of_z;
       is_more = simp to_z-of_z;
     }
@@ -104,3 +96,43 @@ currents_below k0 a b c f h k l =
       bc = apart_below b c k l;
       ca = apart_below c a l h;
     }
+
+-- ---- the six loops in lanes
+
+minus_zero : (z : ℤ) → z -ℤ pos 0 ≡ z
+minus_zero z = omega (arith, signed)
+
+plus_zero : (z : ℤ) → z +ℤ pos 0 ≡ z
+plus_zero z = omega (arith, signed)
+
+thousand : (z : ℤ) → z *ℤ pos 1000 ≡ pos 1000 *ℤ z
+thousand z = omega (arith, signed)
+
+-- what the code holds is the number
+pub held_is : (z : ℤ) (m : ℕ) → unsigned_abs z < m → m ≤ 2 ^ 63 → held z ≡ z
+held_is z m h k = to_z-of_z (fits_64 z m h k)
+
+pub between_held : (a b c : ℤ) → unsigned_abs a < 2 ^ 33 → unsigned_abs b < 2 ^ 33 → unsigned_abs c < 2 ^ 33 →
+    between_lanes (held a) (held b) (held c) ≡ between_lanes a b c
+between_held a b c ha hb hc = rw (held_is a (2 ^ 33) ha (lit≤ tt), held_is b (2 ^ 33) hb (lit≤ tt), held_is c (2 ^ 33) hc (lit≤ tt)) refl
+
+pub joined_voltages : (a b c : Cx) → joined_lanes (between_lanes a.re b.re c.re) (between_lanes a.im b.im c.im) ≡ voltages_of a b c
+joined_voltages a b c = simp minus_zero
+
+pub joined_currents : (k0 a b c : Cx) →
+    joined_lanes (compensated_lanes (between_lanes a.re b.re c.re) (product k0 (sum (sum a b) c)).re)
+    (compensated_lanes (between_lanes a.im b.im c.im) (product k0 (sum (sum a b) c)).im)
+    ≡ currents_of k0 a b c
+joined_currents k0 a b c = simp (minus_zero, thousand)
+
+size_zero : (m : ℕ) → 0 < m → unsigned_abs (pos 0) < m
+size_zero m h = omega arith
+
+pub between_below : (a b c : ℤ) → unsigned_abs a < 2 ^ 33 → unsigned_abs b < 2 ^ 33 → unsigned_abs c < 2 ^ 33 → AllBelow (between_lanes a b c) (2 ^ 40)
+between_below a b c ha hb hc = AllBelow-eight (2 ^ 40) _ _ _ _ _ _ _ _
+    (apart a (pos 0) ha (omega arith)) (apart b (pos 0) hb (omega arith)) (apart c (pos 0) hc (omega arith))
+    (apart a b ha hb) (apart b c hb hc) (apart c a hc ha)
+    (apart (pos 0) (pos 0) (omega arith) (omega arith)) (apart (pos 0) (pos 0) (omega arith) (omega arith))
+  where
+    apart : (x y : ℤ) → unsigned_abs x < 2 ^ 33 → unsigned_abs y < 2 ^ 33 → unsigned_abs (x -ℤ y) < 2 ^ 40
+    apart x y hx hy = let h = size-difference x y (2 ^ 33) (2 ^ 33) hx hy in omega (arith, h)

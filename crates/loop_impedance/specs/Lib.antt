@@ -1,3 +1,4 @@
 pub mod Loops
+pub mod LoopLanes
 pub mod Masks
 pub mod MaskLaws
