@@ -1,7 +1,8 @@
 //! The reach of a zone, whichever its shape: whether a loop's impedance is inside.
 //!
 //! The loop's voltage and the polarising voltage are counts of 10 mV, its current thousandths of 1 mA,
-//! reaches milliohms. A zone that looks backwards takes the opposite of the current. It stands on `mho_zone`
+//! reaches milliohms. A zone has a part for the loops to ground and one for those between phases, each with a
+//! shape of its own; a zone that looks backwards takes the opposite of the current. It stands on `mho_zone`
 //! and `quad_zone` for the two shapes, on `relay_settings` for the settings, and on `relay_num` for complex
 //! numbers and counted steps.
 #![tactic(auto)]
@@ -21,6 +22,9 @@ use std::sync::ledger::Ledger;
 
 #[cfg(test)]
 mod tests;
+mod zone;
+
+pub use zone::zone_holds;
 
 /// Whether a loop of voltage `u`, whose parts are at most 2^31 in size, and current `i`, whose parts are
 /// below 2^45, is inside the shape; `reversed` says that the zone looks backwards. A mho polarises from `pol`,

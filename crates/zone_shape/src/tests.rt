@@ -3,11 +3,11 @@ ghost use Rattle.std.specs.Prelude.{◌≡◌, ◌<◌};
 ghost use Rattle.std.specs.Option.{ForSome};
 ghost use Rattle.relay_num.specs.Bounds.{loop_voltage_bound, loop_current_bound, polarising_bound};
 ghost use Rattle.relay_num.specs.Numbers.{IsBelow};
-ghost use Rattle.relay_settings.specs.Ranges.{IsShape};
+ghost use Rattle.relay_settings.specs.Ranges.{IsShape, IsZone};
 
 use super::*;
 use relay_num::open_steps;
-use relay_settings::QuadSettings;
+use relay_settings::{Dir, QuadSettings, ZonePart, ZoneSettings};
 use std::marker::Brand;
 use std::sync::ledger::Blank;
 
@@ -38,6 +38,36 @@ const AHEAD: Cx = Cx { re: 0, im: -10001 };
 const BEHIND: Cx = Cx { re: 0, im: 10001 };
 
 const POL: Option<Cx> = Some(Cx { re: 1, im: 0 });
+
+const ZONE: ZoneSettings = ZoneSettings {
+    ground: Some(ZonePart {
+        shape: MHO,
+        delay_ms: 0,
+    }),
+    phase: None,
+    dir: Dir::Reverse,
+    trip: true,
+    swing_block: false,
+    load_block: false,
+};
+
+fn in_zone<L: Ledger>(zone: ZoneSettings, lp: usize, i: Cx, blank: Blank) -> bool
+    requires zone { IsZone zone }
+    requires i { IsBelow i loop_current_bound }
+    requires name { blank.name ≡ L.name }
+    requires parts { blank.parts ≡ L.parts }
+    requires shares { 0 < blank.parts }
+{
+    let one = Cx { re: 1, im: 0 };
+    zone_holds(&zone, lp, one, i, Some(one), &mut open_steps::<L>(blank))
+}
+
+#[test]
+fn a_loop_without_its_part_is_outside(rt: HostRuntime) {
+    assert_eq!(rt; in_zone::<Brand>(ZONE, 2, BEHIND, Blank::new(1)), true);
+    assert_eq!(rt; in_zone::<Brand>(ZONE, 2, AHEAD, Blank::new(1)), false);
+    assert_eq!(rt; in_zone::<Brand>(ZONE, 3, BEHIND, Blank::new(1)), false);
+}
 
 #[test]
 fn a_reverse_zone_sees_the_current_turned_round(rt: HostRuntime) {
