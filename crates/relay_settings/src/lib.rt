@@ -14,6 +14,6 @@ mod types;
 
 pub use times::{samples_of, wide_samples_of};
 pub use types::{
-    Common, Dir, FuseSettings, GooseSettings, LineSettings, LoadSettings, Mimic, QuadSettings,
-    Settings, Shape, SwingSettings, ZonePart, ZoneSettings,
+    Common, Dir, FuseSettings, GooseSettings, LineSettings, LoadSettings, MOST_LINES, MOST_ZONES,
+    Mimic, QuadSettings, Settings, Shape, SwingSettings, ZonePart, ZoneSettings,
 };

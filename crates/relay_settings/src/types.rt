@@ -2,6 +2,12 @@
 use arrayvec::ArrayVec;
 use relay_num::Cx;
 
+/// The most lines of a settings file.
+pub const MOST_LINES: usize = 16;
+
+/// The most zones of a line.
+pub const MOST_ZONES: usize = 5;
+
 /// All settings.
 #[derive(Drop)]
 pub struct Settings {

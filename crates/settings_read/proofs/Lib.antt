@@ -6,3 +6,7 @@ pub mod DayRange
 pub mod Tree
 pub mod Repeats
 pub mod NewLine
+pub mod Chains
+pub mod ZoneFacts
+pub mod LineFacts
+pub mod AcceptedFacts

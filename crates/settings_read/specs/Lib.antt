@@ -16,3 +16,4 @@ pub mod TopTable
 pub mod Accepted
 pub mod View
 pub mod Parts
+pub mod SettingsLaws

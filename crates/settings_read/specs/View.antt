@@ -7,16 +7,16 @@ use Rattle.settings_read.specs.declared.error.SettingsError.{SettingsError}
 use Rattle.settings_read.specs.declared.error.SettingsError.TheVariants.{NoMemory, Refused}
 use Rattle.settings_read.specs.Walk.{Refusal, Place, Answer, refused}
 
-abbrev pub refusal_of : CodeRefusal → Refusal
-refusal_of r = record { number = r.number; key = r.key.bytes }
+abbrev pub plain_refusal : CodeRefusal → Refusal
+plain_refusal r = record { number = r.number; key = r.key.bytes }
 
-abbrev pub place_of : CodePlace → Place
-place_of p = record { name = p.name.bytes; prefix = p.prefix.bytes; table = table_view p.table.now }
+abbrev pub plain_place : CodePlace → Place
+plain_place p = record { name = p.name.bytes; prefix = p.prefix.bytes; table = table_view p.table.now }
 
 -- what a function returned, with its value seen by view
-abbrev pub shown : {X Y : Type 0} → (X → Y) → Result X CodeRefusal → Answer Y
-shown view (Ok x) = Ok (view x)
-shown view (Err r) = Err (refusal_of r)
+abbrev pub seen : {X Y : Type 0} → (X → Y) → Result X CodeRefusal → Answer Y
+seen view (Ok x) = Ok (view x)
+seen view (Err r) = Err (plain_refusal r)
 
 -- The same of a function that takes memory: it may also say that there was none.
 abbrev pub Fails : {Y : Type 0} → SettingsError → Answer Y → Type 0

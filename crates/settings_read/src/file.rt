@@ -3,7 +3,7 @@ ghost use Rattle.std.specs.Prelude.{◌≡◌, ◌≤◌, length, codes, IfOk, I
 ghost use Rattle.toml.specs.View.{table_view};
 ghost use Rattle.relay_settings.specs.Settings.{plain_settings, PlainSettings};
 ghost use Rattle.relay_settings.specs.Ranges.{InRange};
-ghost use Rattle.settings_read.specs.View.{place_of, Gives, Fails, IsShort};
+ghost use Rattle.settings_read.specs.View.{plain_place, Gives, Fails, IsShort};
 ghost use Rattle.settings_read.specs.Walk.{Answer, refused};
 ghost use Rattle.settings_read.specs.Accepted.{accepted, top_of};
 
@@ -19,7 +19,7 @@ use toml::Table;
 const MOST_BYTES: usize = 1_048_576;
 
 fn top_of(table: &Table) -> Place<'_>
-    ensures value { place_of result ≡ top_of (table_view table.now) }
+    ensures value { plain_place result ≡ top_of (table_view table.now) }
     ensures short { length result.prefix.bytes ≤ 4 }
 {
     let mut name = ArrayString::new();

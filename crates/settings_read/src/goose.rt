@@ -2,7 +2,7 @@
 ghost use Rattle.std.specs.Prelude.{◌≡◌, ◌≤◌, length, codes, IfOk};
 ghost use Rattle.relay_settings.specs.Ranges.{IsGoose};
 ghost use Rattle.relay_settings.specs.Settings.{plain_goose};
-ghost use Rattle.settings_read.specs.View.{shown, place_of};
+ghost use Rattle.settings_read.specs.View.{seen, plain_place};
 ghost use Rattle.settings_read.specs.Octets.{octets_of_word};
 ghost use Rattle.settings_read.specs.Walk.{only, word, required_table};
 ghost use Rattle.settings_read.specs.GooseTable.{goose_keys, goose_at};
@@ -14,7 +14,7 @@ use crate::value::{optional_count, required_count, required_text};
 use relay_settings::GooseSettings;
 
 fn only_goose_keys(here: &Place) -> Result<(), Refusal>
-    ensures { shown (λ _. tt) result ≡ only (place_of here.now) goose_keys }
+    ensures { seen (λ _. tt) result ≡ only (plain_place here.now) goose_keys }
 {
     only(
         here,
@@ -35,7 +35,7 @@ fn only_goose_keys(here: &Place) -> Result<(), Refusal>
 #[tactic(auto, unfolding(crate::specs::Walk::word))]
 fn octets_at(here: &Place, key: &str) -> Result<[u8; 6], Refusal>
     requires { length key.now ≤ 32 }
-    ensures { shown (λ o. o) result ≡ word 17 octets_of_word (place_of here.now) key.now }
+    ensures { seen (λ o. o) result ≡ word 17 octets_of_word (plain_place here.now) key.now }
 {
     let text = required_text::<17>(here, key, 0x21)?;
     match octets_of_word(text.as_slice()) {
@@ -46,7 +46,7 @@ fn octets_at(here: &Place, key: &str) -> Result<[u8; 6], Refusal>
 
 #[tactic(auto, unfolding(crate::specs::GooseTable::goose_at))]
 fn goose_at(here: &Place) -> Result<GooseSettings, Refusal>
-    ensures value { shown plain_goose result ≡ goose_at (place_of here.now) }
+    ensures value { seen plain_goose result ≡ goose_at (plain_place here.now) }
     ensures ranges { IfOk result IsGoose }
 {
     only_goose_keys(here)?;
@@ -76,7 +76,7 @@ fn goose_at(here: &Place) -> Result<GooseSettings, Refusal>
 #[tactic(auto, unfolding(crate::specs::Walk::required_table))]
 pub(crate) fn goose_of(here: &Place) -> Result<GooseSettings, Refusal>
     requires { length here.now.prefix.bytes ≤ 16 }
-    ensures value { shown plain_goose result ≡ required_table goose_at (place_of here.now) (codes "goose") }
+    ensures value { seen plain_goose result ≡ required_table goose_at (plain_place here.now) (codes "goose") }
     ensures ranges { IfOk result IsGoose }
 {
     match here.get("goose") {

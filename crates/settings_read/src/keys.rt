@@ -3,7 +3,7 @@ ghost use Rattle.std.specs.Prelude.{◌≡◌, map, string_bytes};
 ghost use Rattle.std.specs.Str.{bytes_eq};
 ghost use Rattle.std.specs.List.{list_any, list_all};
 ghost use Rattle.std.specs.Map.{keys_of};
-ghost use Rattle.settings_read.specs.View.{shown, place_of};
+ghost use Rattle.settings_read.specs.View.{seen, plain_place};
 ghost use Rattle.settings_read.specs.Walk.{only};
 
 use crate::place::{Place, Refusal};
@@ -24,7 +24,7 @@ fn are_among(table: &Table, keys: &[&str]) -> bool
 /// No key of the table is unknown.
 #[tactic(auto, unfolding(crate::specs::Walk::only))]
 pub(crate) fn only(here: &Place, keys: &[&str]) -> Result<(), Refusal>
-    ensures { shown (λ _. tt) result ≡ only (place_of here.now) (map (λ k. k.now) keys.now) }
+    ensures { seen (λ _. tt) result ≡ only (plain_place here.now) (map (λ k. k.now) keys.now) }
 {
     if are_among(here.table, keys) {
         Ok(())

@@ -12,6 +12,7 @@ mod error;
 mod file;
 mod goose;
 mod keys;
+mod laws;
 mod line;
 mod lines;
 mod octets;
@@ -28,3 +29,4 @@ mod zones;
 
 pub use error::SettingsError;
 pub use file::read_settings;
+pub use laws::{show_lines_differ, show_version_1_parts_are_equal, show_zones_have_a_part};

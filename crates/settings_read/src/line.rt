@@ -3,7 +3,7 @@ ghost use Rattle.std.specs.Prelude.{◌≡◌, ◌≤◌, length, codes, false, 
 ghost use Rattle.std.specs.Str.{bytes_eq};
 ghost use Rattle.relay_settings.specs.Settings.{plain_line};
 ghost use Rattle.relay_settings.specs.Ranges.{IsText, IsLine};
-ghost use Rattle.settings_read.specs.View.{shown, place_of};
+ghost use Rattle.settings_read.specs.View.{seen, plain_place};
 ghost use Rattle.settings_read.specs.Parts.{IsStream, IsImpedanceRead, IsLimitsRead, IsGuards};
 ghost use Rattle.settings_read.specs.Walk.{only, word};
 ghost use Rattle.settings_read.specs.LineTable.{name_of_word, line_keys, stream_at, impedance_at, limits_at, guards_at, line_at};
@@ -58,7 +58,7 @@ struct Guards {
 }
 
 fn only_line_keys(here: &Place) -> Result<(), Refusal>
-    ensures { shown (λ _. tt) result ≡ only (place_of here.now) line_keys }
+    ensures { seen (λ _. tt) result ≡ only (plain_place here.now) line_keys }
 {
     only(
         here,
@@ -92,7 +92,7 @@ fn only_line_keys(here: &Place) -> Result<(), Refusal>
 
 #[tactic(auto, unfolding(crate::specs::Walk::word))]
 fn name_at(here: &Place) -> Result<ArrayVec<u8, 16>, Refusal>
-    ensures value { shown (λ n. n.items) result ≡ word 16 name_of_word (place_of here.now) (codes "name") }
+    ensures value { seen (λ n. n.items) result ≡ word 16 name_of_word (plain_place here.now) (codes "name") }
     ensures range { IfOk result (λ n. IsText 0x21 16 n.items) }
     ensures not_frame { IfOk result (λ n. bytes_eq n.items (codes "frame") ≡ false) }
 {
@@ -105,7 +105,7 @@ fn name_at(here: &Place) -> Result<ArrayVec<u8, 16>, Refusal>
 
 #[tactic(auto, unfolding(crate::specs::LineTable::stream_at))]
 fn stream_at(here: &Place) -> Result<Stream, Refusal>
-    ensures value { shown (λ s. s) result ≡ stream_at (place_of here.now) }
+    ensures value { seen (λ s. s) result ≡ stream_at (plain_place here.now) }
     ensures ranges { IfOk result IsStream }
 {
     let conf_rev = required_count(here, "conf_rev", 0, 4_294_967_295)?;
@@ -120,7 +120,7 @@ fn stream_at(here: &Place) -> Result<Stream, Refusal>
 
 #[tactic(auto, unfolding(crate::specs::LineTable::impedance_at))]
 fn impedance_at(here: &Place) -> Result<Impedance, Refusal>
-    ensures value { shown (λ z. z) result ≡ impedance_at (place_of here.now) }
+    ensures value { seen (λ z. z) result ≡ impedance_at (plain_place here.now) }
     ensures ranges { IfOk result IsImpedanceRead }
 {
     let line_r = required_whole(here, "line_r", 0, 1_000_000)?;
@@ -137,7 +137,7 @@ fn impedance_at(here: &Place) -> Result<Impedance, Refusal>
 
 #[tactic(auto, unfolding(crate::specs::LineTable::limits_at))]
 fn limits_at(here: &Place) -> Result<Limits, Refusal>
-    ensures value { shown (λ l. l) result ≡ limits_at (place_of here.now) }
+    ensures value { seen (λ l. l) result ≡ limits_at (plain_place here.now) }
     ensures ranges { IfOk result IsLimitsRead }
 {
     let i_min = required_count(here, "i_min", 1, 100_000_000)?;
@@ -163,7 +163,7 @@ fn limits_at(here: &Place) -> Result<Limits, Refusal>
 #[tactic(auto, unfolding(crate::specs::LineTable::guards_at))]
 fn guards_at(here: &Place) -> Result<Guards, Refusal>
     requires { length here.now.prefix.bytes ≤ 12 }
-    ensures value { shown (λ g. g) result ≡ guards_at (place_of here.now) }
+    ensures value { seen (λ g. g) result ≡ guards_at (plain_place here.now) }
     ensures ranges { IfOk result IsGuards }
 {
     let mimic = mimic_of(here)?;
@@ -182,7 +182,7 @@ fn guards_at(here: &Place) -> Result<Guards, Refusal>
 #[tactic(auto, unfolding(crate::specs::LineTable::line_at))]
 pub(crate) fn line_at(version: Version, here: &Place) -> Result<LineSettings, Refusal>
     requires { length here.now.prefix.bytes ≤ 12 }
-    ensures value { shown plain_line result ≡ line_at version (place_of here.now) }
+    ensures value { seen plain_line result ≡ line_at version (plain_place here.now) }
     ensures ranges { IfOk result IsLine }
 {
     only_line_keys(here)?;

@@ -5,7 +5,7 @@ ghost use Rattle.std.specs.List.{list_any};
 ghost use Rattle.toml.specs.View.{view, items_view};
 ghost use Rattle.relay_settings.specs.Settings.{plain_line, plain_lines};
 ghost use Rattle.relay_settings.specs.Ranges.{IsLine};
-ghost use Rattle.settings_read.specs.View.{shown, place_of, Gives, IsShort};
+ghost use Rattle.settings_read.specs.View.{seen, plain_place, Gives, IsShort};
 ghost use Rattle.settings_read.specs.Parts.{IsNew, AreLines};
 ghost use Rattle.settings_read.specs.Walk.{each};
 ghost use Rattle.settings_read.specs.LineList.{new_line_at, line_after, lines_of};
@@ -15,7 +15,7 @@ use crate::line::line_at;
 use crate::place::{Place, Refusal};
 use crate::version::Version;
 use crate::zones::are_tables;
-use relay_settings::LineSettings;
+use relay_settings::{LineSettings, MOST_LINES};
 use std::alloc::Global;
 use toml::Value;
 
@@ -40,7 +40,7 @@ fn has_gocb_ref(done: &[LineSettings], gocb_ref: &[u8]) -> bool
 #[tactic(auto, unfolding(crate::specs::LineList::new_line_at))]
 fn new_line_at(version: Version, here: &Place, done: &[LineSettings]) -> Result<LineSettings, Refusal>
     requires { length here.now.prefix.bytes ≤ 12 }
-    ensures value { shown plain_line result ≡ new_line_at version (place_of here.now) (plain_lines done.now) }
+    ensures value { seen plain_line result ≡ new_line_at version (plain_place here.now) (plain_lines done.now) }
     ensures ranges { IfOk result IsLine }
     ensures new { IfOk result (IsNew done.now) }
 {
@@ -61,7 +61,7 @@ fn new_line_at(version: Version, here: &Place, done: &[LineSettings]) -> Result<
 fn line_after(version: Version, top: &Place, done: &[LineSettings], item: &Value) -> Result<LineSettings, Refusal>
     requires room { length top.now.prefix.bytes ≤ 4 }
     requires few { length done.now < 16 }
-    ensures value { shown plain_line result ≡ line_after version (place_of top.now) (plain_lines done.now) (view item.now) }
+    ensures value { seen plain_line result ≡ line_after version (plain_place top.now) (plain_lines done.now) (view item.now) }
     ensures ranges { IfOk result IsLine }
     ensures new { IfOk result (IsNew done.now) }
 {
@@ -79,7 +79,7 @@ fn lines_from(
 ) -> Result<Vec<LineSettings>, SettingsError>
     requires room { length top.now.prefix.bytes ≤ 4 }
     requires few { length items.now ≤ 16 }
-    ensures exact { Gives (λ v. plain_lines v.items) result (each (line_after version (place_of top.now)) [] (items_view items.now)) }
+    ensures exact { Gives (λ v. plain_lines v.items) result (each (line_after version (plain_place top.now)) [] (items_view items.now)) }
     ensures ranges { IfOk result (λ v. AreLines v.items × (length v.items ≡ length items.now)) }
     ensures key_short { IfErr result IsShort }
 {
@@ -99,7 +99,7 @@ pub(crate) fn lines_of(
     top: &Place,
 ) -> Result<Vec<LineSettings>, SettingsError>
     requires { length top.now.prefix.bytes ≤ 4 }
-    ensures exact { Gives (λ v. plain_lines v.items) result (lines_of version (place_of top.now)) }
+    ensures exact { Gives (λ v. plain_lines v.items) result (lines_of version (plain_place top.now)) }
     ensures ranges { IfOk result (λ v. AreLines v.items × (1 ≤ length v.items) × (length v.items ≤ 16)) }
     ensures key_short { IfErr result IsShort }
 {
@@ -110,7 +110,7 @@ pub(crate) fn lines_of(
             Some(items) => items,
         },
     };
-    if items.len() < 1 || 16 < items.len() {
+    if items.len() < 1 || MOST_LINES < items.len() {
         return Err(SettingsError::from(top.refuse(8, "line")));
     }
     if !are_tables(items.as_slice()) {

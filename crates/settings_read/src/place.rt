@@ -24,7 +24,7 @@ pub(crate) struct Place<'a> {
 }
 
 impl Place<'_> {
-    ghost use Rattle.settings_read.specs.View.{refusal_of, place_of};
+    ghost use Rattle.settings_read.specs.View.{plain_refusal, plain_place};
     ghost use Rattle.settings_read.specs.Walk.{refused, path, found, below, numbered};
 
     /// The refusal of this number for a key of the table.
@@ -32,7 +32,7 @@ impl Place<'_> {
         requires key { length key.now ≤ 32 }
         requires low { 1 ≤ number }
         requires high { number ≤ 12 }
-        ensures { refusal_of result ≡ refused number (path (place_of self.now) key.now) }
+        ensures { plain_refusal result ≡ refused number (path (plain_place self.now) key.now) }
     {
         let mut path = self.prefix;
         path.push_str(key);
@@ -41,7 +41,7 @@ impl Place<'_> {
 
     /// What the table has at a key.
     pub(crate) fn get(&self, key: &str) -> Option<&Value>
-        ensures { option_map (λ v. view v.now) result ≡ found (place_of self.now) key.now }
+        ensures { option_map (λ v. view v.now) result ≡ found (plain_place self.now) key.now }
     {
         self.table.get(key)
     }
@@ -49,7 +49,7 @@ impl Place<'_> {
     /// A table at a key of the table.
     pub(crate) fn below<'b>(&self, key: &str, table: &'b Table) -> Place<'b>
         requires { length self.now.prefix.bytes + length key.now ≤ 31 }
-        ensures { place_of result ≡ below (place_of self.now) key.now (table_view table.now) }
+        ensures { plain_place result ≡ below (plain_place self.now) key.now (table_view table.now) }
     {
         let mut name = self.prefix;
         name.push_str(key);
@@ -67,7 +67,7 @@ impl Place<'_> {
         requires room { length self.now.prefix.bytes + length key.now ≤ 24 }
         requires low { 1 ≤ number }
         requires high { number ≤ 16 }
-        ensures value { place_of result ≡ numbered (place_of self.now) key.now number (table_view table.now) }
+        ensures value { plain_place result ≡ numbered (plain_place self.now) key.now number (table_view table.now) }
         ensures short { length result.prefix.bytes ≤ length self.now.prefix.bytes + length key.now + 4 }
     {
         let mut name = self.prefix;

@@ -1,7 +1,7 @@
 //! The words and the reaches of a zone, which both versions of the settings have.
 ghost use Rattle.std.specs.Prelude.{◌≡◌, codes, IfOk};
 ghost use Rattle.relay_settings.specs.Ranges.{IsReach, IsQuad, IsShape};
-ghost use Rattle.settings_read.specs.View.{shown, place_of};
+ghost use Rattle.settings_read.specs.View.{seen, plain_place};
 ghost use Rattle.settings_read.specs.Walk.{word};
 ghost use Rattle.settings_read.specs.ZoneKeys.{quad_of_word, dir_of_word, mho_at, quad_at, shape_at};
 
@@ -13,7 +13,7 @@ use relay_settings::{Dir, QuadSettings, Shape};
 /// Whether the shape is a quadrilateral.
 #[tactic(auto, unfolding(crate::specs::Walk::word))]
 pub(crate) fn is_quad_at(here: &Place) -> Result<bool, Refusal>
-    ensures { shown (λ b. b) result ≡ word 8 quad_of_word (place_of here.now) (codes "shape") }
+    ensures { seen (λ b. b) result ≡ word 8 quad_of_word (plain_place here.now) (codes "shape") }
 {
     let word = required_text::<8>(here, "shape", 0x21)?;
     if word.as_slice() == b"mho".as_slice() {
@@ -28,7 +28,7 @@ pub(crate) fn is_quad_at(here: &Place) -> Result<bool, Refusal>
 /// The direction that the zone asks.
 #[tactic(auto, unfolding(crate::specs::Walk::word))]
 pub(crate) fn dir_at(here: &Place) -> Result<Dir, Refusal>
-    ensures { shown (λ d. d) result ≡ word 8 dir_of_word (place_of here.now) (codes "dir") }
+    ensures { seen (λ d. d) result ≡ word 8 dir_of_word (plain_place here.now) (codes "dir") }
 {
     let word = required_text::<8>(here, "dir", 0x21)?;
     if word.as_slice() == b"forward".as_slice() {
@@ -44,7 +44,7 @@ pub(crate) fn dir_at(here: &Place) -> Result<Dir, Refusal>
 
 #[tactic(auto, unfolding(crate::specs::ZoneKeys::mho_at))]
 fn mho_at(here: &Place) -> Result<Cx, Refusal>
-    ensures value { shown (λ z. z) result ≡ mho_at (place_of here.now) }
+    ensures value { seen (λ z. z) result ≡ mho_at (plain_place here.now) }
     ensures ranges { IfOk result IsReach }
 {
     let reach_r = required_whole(here, "reach_r", 0, 1_000_000)?;
@@ -57,7 +57,7 @@ fn mho_at(here: &Place) -> Result<Cx, Refusal>
 
 #[tactic(auto, unfolding(crate::specs::ZoneKeys::quad_at))]
 fn quad_at(here: &Place) -> Result<QuadSettings, Refusal>
-    ensures value { shown (λ q. q) result ≡ quad_at (place_of here.now) }
+    ensures value { seen (λ q. q) result ≡ quad_at (plain_place here.now) }
     ensures ranges { IfOk result IsQuad }
 {
     let reach_r = required_whole(here, "reach_r", 1, 1_000_000)?;
@@ -77,7 +77,7 @@ fn quad_at(here: &Place) -> Result<QuadSettings, Refusal>
 /// The reach of a mho, or the reaches of a quadrilateral.
 #[tactic(auto, unfolding(crate::specs::ZoneKeys::shape_at))]
 pub(crate) fn shape_at(here: &Place, is_quad: bool) -> Result<Shape, Refusal>
-    ensures value { shown (λ s. s) result ≡ shape_at (place_of here.now) is_quad }
+    ensures value { seen (λ s. s) result ≡ shape_at (plain_place here.now) is_quad }
     ensures ranges { IfOk result IsShape }
 {
     if is_quad {

@@ -1,7 +1,7 @@
 //! The tables of a line that may be missing: `mimic`, `swing`, `fuse` and `load`.
 ghost use Rattle.std.specs.Prelude.{◌≡◌, ◌≤◌, length, codes, IfOk, IfSome};
 ghost use Rattle.relay_settings.specs.Ranges.{IsMimic, IsSwing, IsFuse, IsLoad};
-ghost use Rattle.settings_read.specs.View.{shown, place_of};
+ghost use Rattle.settings_read.specs.View.{seen, plain_place};
 ghost use Rattle.settings_read.specs.Walk.{only, optional_table};
 ghost use Rattle.settings_read.specs.MimicTable.{mimic_at};
 ghost use Rattle.settings_read.specs.SwingTable.{swing_keys, swing_at};
@@ -15,7 +15,7 @@ use relay_settings::{FuseSettings, LoadSettings, Mimic, SwingSettings};
 
 #[tactic(auto, unfolding(crate::specs::MimicTable::mimic_at))]
 fn mimic_at(here: &Place) -> Result<Mimic, Refusal>
-    ensures value { shown (λ m. m) result ≡ mimic_at (place_of here.now) }
+    ensures value { seen (λ m. m) result ≡ mimic_at (plain_place here.now) }
     ensures ranges { IfOk result IsMimic }
 {
     only(here, &["a", "b"])?;
@@ -25,7 +25,7 @@ fn mimic_at(here: &Place) -> Result<Mimic, Refusal>
 }
 
 fn only_swing_keys(here: &Place) -> Result<(), Refusal>
-    ensures { shown (λ _. tt) result ≡ only (place_of here.now) swing_keys }
+    ensures { seen (λ _. tt) result ≡ only (plain_place here.now) swing_keys }
 {
     only(
         here,
@@ -37,7 +37,7 @@ fn only_swing_keys(here: &Place) -> Result<(), Refusal>
 
 #[tactic(auto, unfolding(crate::specs::SwingTable::swing_at))]
 fn swing_at(here: &Place) -> Result<SwingSettings, Refusal>
-    ensures value { shown (λ s. s) result ≡ swing_at (place_of here.now) }
+    ensures value { seen (λ s. s) result ≡ swing_at (plain_place here.now) }
     ensures ranges { IfOk result IsSwing }
 {
     only_swing_keys(here)?;
@@ -67,7 +67,7 @@ fn swing_at(here: &Place) -> Result<SwingSettings, Refusal>
 
 #[tactic(auto, unfolding(crate::specs::FuseTable::fuse_at))]
 fn fuse_at(here: &Place) -> Result<FuseSettings, Refusal>
-    ensures value { shown (λ f. f) result ≡ fuse_at (place_of here.now) }
+    ensures value { seen (λ f. f) result ≡ fuse_at (plain_place here.now) }
     ensures ranges { IfOk result IsFuse }
 {
     only(here, &["u2_min", "i2_max", "hold_ms"])?;
@@ -83,7 +83,7 @@ fn fuse_at(here: &Place) -> Result<FuseSettings, Refusal>
 
 #[tactic(auto, unfolding(crate::specs::LoadTable::load_at))]
 fn load_at(here: &Place) -> Result<LoadSettings, Refusal>
-    ensures value { shown (λ l. l) result ≡ load_at (place_of here.now) }
+    ensures value { seen (λ l. l) result ≡ load_at (plain_place here.now) }
     ensures ranges { IfOk result IsLoad }
 {
     only(here, &["r", "slope"])?;
@@ -96,7 +96,7 @@ fn load_at(here: &Place) -> Result<LoadSettings, Refusal>
 #[tactic(auto, unfolding(crate::specs::Walk::optional_table))]
 pub(crate) fn mimic_of(here: &Place) -> Result<Option<Mimic>, Refusal>
     requires { length here.now.prefix.bytes ≤ 16 }
-    ensures value { shown (λ m. m) result ≡ optional_table mimic_at (place_of here.now) (codes "mimic") }
+    ensures value { seen (λ m. m) result ≡ optional_table mimic_at (plain_place here.now) (codes "mimic") }
     ensures ranges { IfOk result (λ m. IfSome m IsMimic) }
 {
     match here.get("mimic") {
@@ -115,7 +115,7 @@ pub(crate) fn mimic_of(here: &Place) -> Result<Option<Mimic>, Refusal>
 #[tactic(auto, unfolding(crate::specs::Walk::optional_table))]
 pub(crate) fn swing_of(here: &Place) -> Result<Option<SwingSettings>, Refusal>
     requires { length here.now.prefix.bytes ≤ 16 }
-    ensures value { shown (λ s. s) result ≡ optional_table swing_at (place_of here.now) (codes "swing") }
+    ensures value { seen (λ s. s) result ≡ optional_table swing_at (plain_place here.now) (codes "swing") }
     ensures ranges { IfOk result (λ s. IfSome s IsSwing) }
 {
     match here.get("swing") {
@@ -134,7 +134,7 @@ pub(crate) fn swing_of(here: &Place) -> Result<Option<SwingSettings>, Refusal>
 #[tactic(auto, unfolding(crate::specs::Walk::optional_table))]
 pub(crate) fn fuse_of(here: &Place) -> Result<Option<FuseSettings>, Refusal>
     requires { length here.now.prefix.bytes ≤ 16 }
-    ensures value { shown (λ f. f) result ≡ optional_table fuse_at (place_of here.now) (codes "fuse") }
+    ensures value { seen (λ f. f) result ≡ optional_table fuse_at (plain_place here.now) (codes "fuse") }
     ensures ranges { IfOk result (λ f. IfSome f IsFuse) }
 {
     match here.get("fuse") {
@@ -153,7 +153,7 @@ pub(crate) fn fuse_of(here: &Place) -> Result<Option<FuseSettings>, Refusal>
 #[tactic(auto, unfolding(crate::specs::Walk::optional_table))]
 pub(crate) fn load_of(here: &Place) -> Result<Option<LoadSettings>, Refusal>
     requires { length here.now.prefix.bytes ≤ 16 }
-    ensures value { shown (λ l. l) result ≡ optional_table load_at (place_of here.now) (codes "load") }
+    ensures value { seen (λ l. l) result ≡ optional_table load_at (plain_place here.now) (codes "load") }
     ensures ranges { IfOk result (λ l. IfSome l IsLoad) }
 {
     match here.get("load") {

@@ -2,7 +2,7 @@
 ghost use Rattle.std.specs.Prelude.{◌≡◌, ◌≤◌, length, codes, IfOk, IfErr, IfSome};
 ghost use Rattle.relay_settings.specs.Settings.{plain_settings};
 ghost use Rattle.relay_settings.specs.Ranges.{IsCycle, IsCommon, InRange};
-ghost use Rattle.settings_read.specs.View.{shown, place_of, Gives, IsShort};
+ghost use Rattle.settings_read.specs.View.{seen, plain_place, Gives, IsShort};
 ghost use Rattle.settings_read.specs.Start.{second_of_text};
 ghost use Rattle.settings_read.specs.Walk.{only, word};
 ghost use Rattle.settings_read.specs.TopTable.{top_keys, version_at, cycle_of, common_at, settings_at};
@@ -19,7 +19,7 @@ use std::alloc::Global;
 
 #[tactic(auto, unfolding(crate::specs::Walk::word))]
 fn start_at(top: &Place) -> Result<u32, Refusal>
-    ensures value { shown (λ n. n) result ≡ word 20 second_of_text (place_of top.now) (codes "start") }
+    ensures value { seen (λ n. n) result ≡ word 20 second_of_text (plain_place top.now) (codes "start") }
     ensures range { IfOk result (λ n. n ≤ 4102444799) }
 {
     let text = required_text::<20>(top, "start", 0x21)?;
@@ -31,7 +31,7 @@ fn start_at(top: &Place) -> Result<u32, Refusal>
 
 #[tactic(auto, unfolding(crate::specs::TopTable::version_at))]
 fn version_at(top: &Place) -> Result<Version, Refusal>
-    ensures { shown (λ v. v) result ≡ version_at (place_of top.now) }
+    ensures { seen (λ v. v) result ≡ version_at (plain_place top.now) }
 {
     let version = required_count(top, "version", 1, 2)?;
     if version == 1 {
@@ -55,7 +55,7 @@ fn cycle_of(rate: u32, nominal: u32) -> Option<u32>
 
 #[tactic(auto, unfolding(crate::specs::TopTable::common_at))]
 fn common_at(top: &Place) -> Result<Common, Refusal>
-    ensures value { shown (λ c. c) result ≡ common_at (place_of top.now) }
+    ensures value { seen (λ c. c) result ≡ common_at (plain_place top.now) }
     ensures ranges { IfOk result IsCommon }
 {
     let start = start_at(top)?;
@@ -75,7 +75,7 @@ fn common_at(top: &Place) -> Result<Common, Refusal>
 }
 
 fn only_top_keys(top: &Place) -> Result<(), Refusal>
-    ensures { shown (λ _. tt) result ≡ only (place_of top.now) top_keys }
+    ensures { seen (λ _. tt) result ≡ only (plain_place top.now) top_keys }
 {
     only(
         top,
@@ -94,7 +94,7 @@ fn only_top_keys(top: &Place) -> Result<(), Refusal>
 #[tactic(auto, unfolding(crate::specs::TopTable::settings_at))]
 pub(crate) fn settings_at(alloc: Global, top: &Place) -> Result<Settings, SettingsError>
     requires { length top.now.prefix.bytes ≤ 4 }
-    ensures exact { Gives plain_settings result (settings_at (place_of top.now)) }
+    ensures exact { Gives plain_settings result (settings_at (plain_place top.now)) }
     ensures ranges { IfOk result InRange }
     ensures key_short { IfErr result IsShort }
 {

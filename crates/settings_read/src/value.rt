@@ -3,7 +3,7 @@ ghost use Rattle.std.specs.Prelude.{◌≡◌, ◌≤◌, length, nat_le, ◌&&�
 ghost use Rattle.std.specs.List.{list_all};
 ghost use Rattle.toml.specs.View.{view};
 ghost use Rattle.relay_settings.specs.Ranges.{IsCount, IsWhole, IsText};
-ghost use Rattle.settings_read.specs.View.{shown, place_of};
+ghost use Rattle.settings_read.specs.View.{seen, plain_place};
 ghost use Rattle.settings_read.specs.Walk.{path, found, there, whole, count, boolean, text, required, optional};
 
 use crate::place::{Place, Refusal};
@@ -13,7 +13,7 @@ use toml::Value;
 #[tactic(auto, unfolding(crate::specs::Walk::whole))]
 fn whole(here: &Place, key: &str, value: &Value, low: i64, high: i64) -> Result<i64, Refusal>
     requires { length key.now ≤ 32 }
-    ensures value { shown (λ z. z) result ≡ whole low high (path (place_of here.now) key.now) (view value.now) }
+    ensures value { seen (λ z. z) result ≡ whole low high (path (plain_place here.now) key.now) (view value.now) }
     ensures range { IfOk result (IsWhole low high) }
 {
     match value.as_integer() {
@@ -26,7 +26,7 @@ fn whole(here: &Place, key: &str, value: &Value, low: i64, high: i64) -> Result<
 #[tactic(auto, unfolding(crate::specs::Walk::count, crate::specs::Walk::whole))]
 fn count(here: &Place, key: &str, value: &Value, low: u32, high: u32) -> Result<u32, Refusal>
     requires { length key.now ≤ 32 }
-    ensures value { shown (λ n. n) result ≡ count low high (path (place_of here.now) key.now) (view value.now) }
+    ensures value { seen (λ n. n) result ≡ count low high (path (plain_place here.now) key.now) (view value.now) }
     ensures range { IfOk result (IsCount low high) }
 {
     match value.as_integer() {
@@ -39,7 +39,7 @@ fn count(here: &Place, key: &str, value: &Value, low: u32, high: u32) -> Result<
 #[tactic(auto, unfolding(crate::specs::Walk::boolean))]
 fn boolean(here: &Place, key: &str, value: &Value) -> Result<bool, Refusal>
     requires { length key.now ≤ 32 }
-    ensures { shown (λ b. b) result ≡ boolean (path (place_of here.now) key.now) (view value.now) }
+    ensures { seen (λ b. b) result ≡ boolean (path (plain_place here.now) key.now) (view value.now) }
 {
     match value.as_bool() {
         Some(b) => Ok(b),
@@ -68,7 +68,7 @@ fn text<const MOST: usize>(
     low: u8,
 ) -> Result<ArrayVec<u8, MOST>, Refusal>
     requires { length key.now ≤ 32 }
-    ensures value { shown (λ t. t.items) result ≡ text low MOST (path (place_of here.now) key.now) (view value.now) }
+    ensures value { seen (λ t. t.items) result ≡ text low MOST (path (plain_place here.now) key.now) (view value.now) }
     ensures range { IfOk result (λ t. IsText low MOST t.items) }
 {
     match value.as_str() {
@@ -88,7 +88,7 @@ fn text<const MOST: usize>(
 
 fn present<'a>(here: &'a Place, key: &str) -> Result<&'a Value, Refusal>
     requires { length key.now ≤ 32 }
-    ensures { shown (λ v. view v.now) result ≡ there (found (place_of here.now) key.now) 4 (path (place_of here.now) key.now) }
+    ensures { seen (λ v. view v.now) result ≡ there (found (plain_place here.now) key.now) 4 (path (plain_place here.now) key.now) }
 {
     match here.get(key) {
         Some(value) => Ok(value),
@@ -100,7 +100,7 @@ fn present<'a>(here: &'a Place, key: &str) -> Result<&'a Value, Refusal>
 #[tactic(auto, unfolding(crate::specs::Walk::required))]
 pub(crate) fn required_whole(here: &Place, key: &str, low: i64, high: i64) -> Result<i64, Refusal>
     requires { length key.now ≤ 32 }
-    ensures value { shown (λ z. z) result ≡ required (whole low high) (place_of here.now) key.now }
+    ensures value { seen (λ z. z) result ≡ required (whole low high) (plain_place here.now) key.now }
     ensures range { IfOk result (IsWhole low high) }
 {
     let value = present(here, key)?;
@@ -111,7 +111,7 @@ pub(crate) fn required_whole(here: &Place, key: &str, low: i64, high: i64) -> Re
 #[tactic(auto, unfolding(crate::specs::Walk::required))]
 pub(crate) fn required_count(here: &Place, key: &str, low: u32, high: u32) -> Result<u32, Refusal>
     requires { length key.now ≤ 32 }
-    ensures value { shown (λ n. n) result ≡ required (count low high) (place_of here.now) key.now }
+    ensures value { seen (λ n. n) result ≡ required (count low high) (plain_place here.now) key.now }
     ensures range { IfOk result (IsCount low high) }
 {
     let value = present(here, key)?;
@@ -130,7 +130,7 @@ pub(crate) fn optional_count(
     requires key { length key.now ≤ 32 }
     requires low { low ≤ default }
     requires high { default ≤ high }
-    ensures value { shown (λ n. n) result ≡ optional (count low high) default (place_of here.now) key.now }
+    ensures value { seen (λ n. n) result ≡ optional (count low high) default (plain_place here.now) key.now }
     ensures range { IfOk result (IsCount low high) }
 {
     match here.get(key) {
@@ -142,7 +142,7 @@ pub(crate) fn optional_count(
 #[tactic(auto, unfolding(crate::specs::Walk::required))]
 pub(crate) fn required_boolean(here: &Place, key: &str) -> Result<bool, Refusal>
     requires { length key.now ≤ 32 }
-    ensures { shown (λ b. b) result ≡ required boolean (place_of here.now) key.now }
+    ensures { seen (λ b. b) result ≡ required boolean (plain_place here.now) key.now }
 {
     let value = present(here, key)?;
     boolean(here, key, value)
@@ -156,7 +156,7 @@ pub(crate) fn required_text<const MOST: usize>(
     low: u8,
 ) -> Result<ArrayVec<u8, MOST>, Refusal>
     requires { length key.now ≤ 32 }
-    ensures value { shown (λ t. t.items) result ≡ required (text low MOST) (place_of here.now) key.now }
+    ensures value { seen (λ t. t.items) result ≡ required (text low MOST) (plain_place here.now) key.now }
     ensures range { IfOk result (λ t. IsText low MOST t.items) }
 {
     let value = present(here, key)?;

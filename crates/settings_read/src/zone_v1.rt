@@ -1,7 +1,7 @@
 //! The table of a zone in version 1: one shape, its reaches and its delay, for all loops.
 ghost use Rattle.std.specs.Prelude.{◌≡◌, codes, if◌then◌else◌, IfOk};
 ghost use Rattle.relay_settings.specs.Ranges.{IsZone};
-ghost use Rattle.settings_read.specs.View.{shown, place_of};
+ghost use Rattle.settings_read.specs.View.{seen, plain_place};
 ghost use Rattle.settings_read.specs.Walk.{only};
 ghost use Rattle.settings_read.specs.ZoneTableV1.{mho_zone_keys, quad_zone_keys, zone_v1_at};
 
@@ -12,7 +12,7 @@ use crate::value::{required_boolean, required_count};
 use relay_settings::{ZonePart, ZoneSettings};
 
 fn only_keys_v1(here: &Place, is_quad: bool) -> Result<(), Refusal>
-    ensures { shown (λ _. tt) result ≡ only (place_of here.now) (if is_quad then quad_zone_keys else mho_zone_keys) }
+    ensures { seen (λ _. tt) result ≡ only (plain_place here.now) (if is_quad then quad_zone_keys else mho_zone_keys) }
 {
     if is_quad {
         only(
@@ -51,7 +51,7 @@ fn only_keys_v1(here: &Place, is_quad: bool) -> Result<(), Refusal>
 /// The zone of a table in version 1. Its two parts are equal.
 #[tactic(auto, unfolding(crate::specs::ZoneTableV1::zone_v1_at))]
 pub(crate) fn zone_v1_at(here: &Place) -> Result<ZoneSettings, Refusal>
-    ensures value { shown (λ z. z) result ≡ zone_v1_at (place_of here.now) }
+    ensures value { seen (λ z. z) result ≡ zone_v1_at (plain_place here.now) }
     ensures ranges { IfOk result IsZone }
 {
     let is_quad = is_quad_at(here)?;

@@ -1,7 +1,7 @@
 //! The table of a zone in version 2: a part for the ground loops, a part for the phase loops, or both.
 ghost use Rattle.std.specs.Prelude.{◌≡◌, ◌≤◌, ◌||◌, is_some, length, codes, if◌then◌else◌, IfOk, IfSome, IsTrue};
 ghost use Rattle.relay_settings.specs.Ranges.{IsZone, IsZonePart};
-ghost use Rattle.settings_read.specs.View.{shown, place_of};
+ghost use Rattle.settings_read.specs.View.{seen, plain_place};
 ghost use Rattle.settings_read.specs.Walk.{path, found, holds, only, optional_table};
 ghost use Rattle.settings_read.specs.ZoneTableV2.{mho_part_keys, quad_part_keys, part_at, zone_keys, zone_v2_at};
 
@@ -12,7 +12,7 @@ use crate::value::{required_boolean, required_count};
 use relay_settings::{ZonePart, ZoneSettings};
 
 fn only_part_keys(here: &Place, is_quad: bool) -> Result<(), Refusal>
-    ensures { shown (λ _. tt) result ≡ only (place_of here.now) (if is_quad then quad_part_keys else mho_part_keys) }
+    ensures { seen (λ _. tt) result ≡ only (plain_place here.now) (if is_quad then quad_part_keys else mho_part_keys) }
 {
     if is_quad {
         only(
@@ -28,7 +28,7 @@ fn only_part_keys(here: &Place, is_quad: bool) -> Result<(), Refusal>
 
 #[tactic(auto, unfolding(crate::specs::ZoneTableV2::part_at))]
 fn part_at(here: &Place) -> Result<ZonePart, Refusal>
-    ensures value { shown (λ p. p) result ≡ part_at (place_of here.now) }
+    ensures value { seen (λ p. p) result ≡ part_at (plain_place here.now) }
     ensures ranges { IfOk result IsZonePart }
 {
     let is_quad = is_quad_at(here)?;
@@ -43,9 +43,9 @@ fn part_at(here: &Place) -> Result<ZonePart, Refusal>
 fn part_of(here: &Place, key: &str) -> Result<Option<ZonePart>, Refusal>
     requires key { length key.now ≤ 8 }
     requires room { length here.now.prefix.bytes ≤ 20 }
-    ensures value { shown (λ p. p) result ≡ optional_table part_at (place_of here.now) key.now }
+    ensures value { seen (λ p. p) result ≡ optional_table part_at (plain_place here.now) key.now }
     ensures ranges { IfOk result (λ p. IfSome p IsZonePart) }
-    ensures there { IfOk result (λ p. is_some p ≡ is_some (found (place_of here.now) key.now)) }
+    ensures there { IfOk result (λ p. is_some p ≡ is_some (found (plain_place here.now) key.now)) }
 {
     match here.get(key) {
         None => Ok(None),
@@ -61,8 +61,8 @@ fn part_of(here: &Place, key: &str) -> Result<Option<ZonePart>, Refusal>
 
 /// A part is there.
 fn some_part(here: &Place) -> Result<(), Refusal>
-    ensures value { shown (λ _. tt) result ≡ holds (is_some (found (place_of here.now) (codes "ground")) || is_some (found (place_of here.now) (codes "phase"))) 4 (path (place_of here.now) (codes "ground")) }
-    ensures there { IfOk result (λ _. IsTrue (is_some (found (place_of here.now) (codes "ground")) || is_some (found (place_of here.now) (codes "phase")))) }
+    ensures value { seen (λ _. tt) result ≡ holds (is_some (found (plain_place here.now) (codes "ground")) || is_some (found (plain_place here.now) (codes "phase"))) 4 (path (plain_place here.now) (codes "ground")) }
+    ensures there { IfOk result (λ _. IsTrue (is_some (found (plain_place here.now) (codes "ground")) || is_some (found (plain_place here.now) (codes "phase")))) }
 {
     if here.get("ground").is_some() || here.get("phase").is_some() {
         Ok(())
@@ -72,7 +72,7 @@ fn some_part(here: &Place) -> Result<(), Refusal>
 }
 
 fn only_zone_keys(here: &Place) -> Result<(), Refusal>
-    ensures { shown (λ _. tt) result ≡ only (place_of here.now) zone_keys }
+    ensures { seen (λ _. tt) result ≡ only (plain_place here.now) zone_keys }
 {
     only(
         here,
@@ -91,7 +91,7 @@ fn only_zone_keys(here: &Place) -> Result<(), Refusal>
 #[tactic(auto, unfolding(crate::specs::ZoneTableV2::zone_v2_at))]
 pub(crate) fn zone_v2_at(here: &Place) -> Result<ZoneSettings, Refusal>
     requires { length here.now.prefix.bytes ≤ 20 }
-    ensures value { shown (λ z. z) result ≡ zone_v2_at (place_of here.now) }
+    ensures value { seen (λ z. z) result ≡ zone_v2_at (plain_place here.now) }
     ensures ranges { IfOk result IsZone }
 {
     only_zone_keys(here)?;

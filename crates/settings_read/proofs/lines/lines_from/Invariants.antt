@@ -1,5 +1,5 @@
 use Rattle.std.proofs.Common.{◌≡◌, [], length, drop}
-use Rattle.settings_read.specs.View.{place_of}
+use Rattle.settings_read.specs.View.{plain_place}
 use Rattle.relay_settings.specs.Settings.{plain_lines}
 use Rattle.toml.specs.View.{items_view}
 use Rattle.settings_read.specs.Walk.{each}
@@ -10,6 +10,6 @@ use Rattle.settings_read.proofs.lines.lines_from.Given as goal
 abbrev pub invariant-loop-item : goal.invariant-loop-item
 invariant-loop-item l = record {
   as_far : length l.lines.items ≡ l.item-index;
-  rest : each (line_after l.version (place_of l.top)) (plain_lines l.lines.items) (items_view (drop l.item-index l.items)) ≡ each (line_after l.version (place_of l.top)) [] (items_view l.items);
+  rest : each (line_after l.version (plain_place l.top)) (plain_lines l.lines.items) (items_view (drop l.item-index l.items)) ≡ each (line_after l.version (plain_place l.top)) [] (items_view l.items);
   ranges : AreLines l.lines.items;
 }
