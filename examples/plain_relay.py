@@ -84,7 +84,7 @@ class Settings:
         with open(path, "rb") as file:
             top = tomllib.load(file)
         self.rate, self.nominal = top["rate"], top["nominal"]
-        self.n = PAIRS[self.rate, self.nominal]
+        self.n, self.heartbeat_ms = PAIRS[self.rate, self.nominal], top["heartbeat_ms"]
         start = datetime.datetime.strptime(top["start"], "%Y-%m-%dT%H:%M:%S%z")
         self.start = int(start.timestamp())
         self.lines = [self.line(top["version"], one) for one in top["line"]]
@@ -121,18 +121,23 @@ class Sample:
 
 
 class Line:
-    """All taken samples of one line of a capture, by number."""
+    """All taken samples of one line of a capture, by number; and what became of each of its own sample sets, in their
+    order, as (words, whether it's taken, the last taken number by then)."""
 
     def __init__(self, settings, line, sets):
         self.common, self.line, self.n = settings, line, settings.n
         self.sine = sine_table(self.n)
         self.cosine = self.sine[self.n // 4:] + self.sine[:self.n // 4]
-        self.samples = {}
+        self.samples, self.outcomes = {}, []
         own = line["sv_id"].encode("ascii")
         last = None
         for one in sets:
             if one.sv_id == own:
-                last = self.take(one, last)
+                words, number = self.outcome(one, last)
+                if number is not None:
+                    self.take(one, number)
+                    last = number
+                self.outcomes.append((words, number is not None, last))
         self.numbers = list(self.samples)
         self.measure()
 
@@ -141,23 +146,30 @@ class Line:
         place = bisect.bisect_left(self.numbers, number)
         return self.samples[self.numbers[place - 1]] if place else None
 
-    def take(self, one, last):
-        """The last taken number after this sample set. A counter counts on from the last one, unless the set repeats it or
-        comes up to 64 behind."""
-        channels, rate = one.channels(), self.common.rate
-        if one.conf_rev != self.line["conf_rev"] or channels is None or one.counter >= rate:
-            return last
-        number = one.counter
-        if last is not None:
-            ahead = (one.counter - last) % rate
-            if ahead == 0 or ahead >= rate - 64:
-                return last
-            number = last + ahead
-        used = [channels[k] for k in sv.USED]
+    def outcome(self, one, last):
+        """What the log says of a sample set, and its number where it's taken. A counter counts on from the last one, unless
+        the set repeats it or comes up to 64 behind."""
+        rate = self.common.rate
+        if one.conf_rev != self.line["conf_rev"]:
+            return f"confrev {one.conf_rev}", None
+        if len(one.data) != 64:
+            return f"length {len(one.data)}", None
+        if one.counter >= rate:
+            return f"wild {one.counter}", None
+        if last is None:
+            return "first", one.counter
+        ahead = (one.counter - last) % rate
+        if ahead == 0:
+            return f"repeat {one.counter}", None
+        if ahead >= rate - 64:
+            return f"late {one.counter} by {rate - ahead}", None
+        return f"jump {ahead - 1}" if ahead > 1 else None, last + ahead
+
+    def take(self, one, number):
+        used = [one.channels()[k] for k in sv.USED]
         good = one.synch >= self.line["synch_min"] and all(
             not word & self.line["quality_mask"] and abs(value) <= MOST for value, word in used)
         self.samples[number] = Sample(number, [value for value, _ in used], good)
-        return number
 
     def measure(self):
         """Goes through the samples once. The sums slide, which gives what the sums of each last cycle formed anew do."""
