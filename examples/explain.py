@@ -154,12 +154,14 @@ def explain(settings_path, capture_path, log_path, wanted=None):
     if not any(line.samples for line in lines.values()):
         raise sv.Unreadable(f"{capture_path}: no sample set of {', '.join(names) or 'a line'} in it; its svIDs are "
                             + (", ".join(sorted({ascii(s.sv_id)[1:] for s in sets})) or "none"))
+    for name, line in lines.items():
+        rules.expect_log_of(line, [event for event in events if event.name == name])
     differ = 0
     for event in events:
         line = lines.get(event.name)
         if line is None or not (event.is_zone or event.words in ("trip", "reset")):
             continue
-        if event.number not in line.samples or event.is_zone and event.zone >= len(line.line["zones"]):
+        if event.is_zone and event.zone >= len(line.line["zones"]):
             raise sv.Unreadable(f"the log isn't of this capture and these settings: {event.text}")
         print(event.text)
         told = zone_lines if event.is_zone else trip_lines if event.words == "trip" else reset_lines

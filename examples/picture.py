@@ -143,7 +143,7 @@ def changes(line):
         before = samples.get(n - n_cycle)
         if before and any(10 * abs(x - y) > peaks[k // 3] for k, (x, y) in enumerate(zip(samples[n].values, before.values))):
             if last is None or n - last > n_cycle:
-                found.append((n, "signals change"))
+                found.append((n, ""))
             last = n
     return found
 
@@ -154,8 +154,8 @@ def marks_on(drawing, window, marks, top, bottom):
         x = window.x(n)
         drawing.line(x, top - 6, x, bottom, "#000", 1.2, "5 3")
         right = x > window.left + 0.6 * window.width
-        drawing.text(x + (-4 if right else 4), top - 10 - 14 * (k % 3), f"{text}, {window.milliseconds(n):.1f} ms",
-                     "end" if right else "start")
+        drawing.text(x + (-4 if right else 4), top - 10 - 14 * (k % 3),
+                     f"{text}{', ' if text else ''}{window.milliseconds(n):.1f} ms", "end" if right else "start")
 
 
 # ------------------------------------------------------------------------------------------------ strips
@@ -424,10 +424,10 @@ def main(settings_path, capture_path, log_path, target, *words):
     line = rules.Line(settings, named, sv.heard(bodies))
     if not line.samples:
         raise sv.Unreadable(f"{capture_path}: no sample set of {named['sv_id']} in it is taken")
-    if any(e.number not in line.samples for e in events if e.name == named["name"]):
-        raise sv.Unreadable("the log isn't of this capture and these settings")
+    own = [event for event in events if event.name == named["name"]]
+    rules.expect_log_of(line, own)
     with open(target, "w", encoding="ascii") as file:
-        file.write(draw(line, [e for e in events if e.name == named["name"]], options))
+        file.write(draw(line, own, options))
 
 
 if __name__ == "__main__":

@@ -417,3 +417,13 @@ def log_lines(path):
             if parts[0] != "frame" and parts[2] != "-":
                 found.append(LogLine(text))
     return found
+
+
+def expect_log_of(line, events):
+    """Raises `Unreadable` where a line's log can't be of its samples: each number has to be taken, the first one where the
+    log says so, and ready or lost as it says."""
+    for event in events:
+        one = line.samples.get(event.number)
+        says = {"first": event.number == (line.numbers or [None])[0], "ready": one and one.ready, "lost": one and not one.ready}
+        if one is None or not says.get(event.words, True):
+            raise sv.Unreadable(f"the log isn't of this capture and these settings: {event.text}")
