@@ -37,7 +37,7 @@ def pcap_records(data):
     major, minor = struct.unpack_from(order + "HH", data, 4)
     link = struct.unpack_from(order + "I", data, 20)[0] & 0xFFFF
     if (major, minor) != (2, 4) or link != 1:
-        raise Unreadable(f"not a capture: version {major}.{minor}, link type {link} (wanted are 2.4 and 1, Ethernet)")
+        raise Unreadable(f"not a capture: a pcap of version {major}.{minor} and link type {link}; wanted are 2.4 and 1, Ethernet")
     bodies, at = [], 24
     while at < len(data):
         size = struct.unpack_from(order + "I", data, at + 8)[0] if at + 16 <= len(data) else 0
@@ -50,11 +50,18 @@ def pcap_records(data):
     return bodies, None
 
 
+KINDS = (
+    (b"\x1f\x8b", "a gzip file; zcat unpacks it"), (b"\x28\xb5\x2f\xfd", "a zstd file; zstdcat unpacks it"),
+    (b"\xfd7zXZ", "an xz file; xzcat unpacks it"), (b"PK\x03\x04", "a zip file; unzip unpacks it"),
+    (b"snoop\0", "a snoop file; editcap -F pcap turns it into a pcap"),
+)
+
+
 def guess(data):
     """What a file may be that is no capture."""
-    kinds = ((b"\x1f\x8b", "a gzip file: unpack it by zcat"), (b"\x28\xb5\x2f\xfd", "a zstd file: unpack it by zstdcat"),
-             (b"\xfd7zXZ", "an xz file: unpack it by xzcat"))
-    return next((": it looks like " + text for magic, text in kinds if data.startswith(magic)), "")
+    if len(data) < 24:
+        return f": it has {len(data)} bytes, and a capture has 24 at least"
+    return next((": it looks like " + text for magic, text in KINDS if data.startswith(magic)), "")
 
 
 def pcapng_records(data):
