@@ -1,16 +1,16 @@
 -- What is so of every settings text that is accepted.
-use Rattle.std.proofs.Common.{◌≡◌, ℕ, List, [], length, codes, Option, Some, Ok, refl, rules, ap, ◌∙◌, sym}
-use Rattle.std.specs.Prelude.{IfOk, nat_le}
+use Rattle.std.proofs.Common.{◌≡◌, ℕ, List, codes, Some, Ok, refl, rules, ap, ◌∙◌, sym}
+use Rattle.std.specs.Prelude.{IfOk}
 use Rattle.std.specs.List.{All}
 use Rattle.toml.specs.Data.{Members}
 use Rattle.relay_settings.specs.Settings.{PlainLine, PlainSettings}
 use Rattle.settings_read.specs.declared.version.Version.{Version}
-use Rattle.settings_read.specs.declared.version.Version.TheVariants.{One, Two}
-use Rattle.settings_read.specs.Walk.{Answer, ◌>>=◌, Place, holds, there, required, count}
+use Rattle.settings_read.specs.declared.version.Version.TheVariants.{One}
+use Rattle.settings_read.specs.Walk.{Place, there, required, count}
 use Rattle.settings_read.specs.LineList.{lines_of}
 use Rattle.settings_read.specs.TopTable.{version_at, settings_at}
 use Rattle.settings_read.specs.Accepted.{tree, top_of, accepted}
-use Rattle.settings_read.specs.SettingsLaws.{LinesDiffer, AcceptedLinesDiffer, AcceptedZonesHaveAPart, HasAPart, HasEqualParts, IsVersion1, Version1PartsAreEqual}
+use Rattle.settings_read.specs.SettingsLaws.{LinesDiffer, AcceptedLinesDiffer, AcceptedZonesHaveAPart, HasAPart, HasEqualParts, Version1PartsAreEqual}
 use Rattle.settings_read.proofs.Chains.{then_ok, at_ok, was_there}
 use Rattle.settings_read.proofs.ZoneFacts.{zone-part, zone_v1-equal}
 use Rattle.settings_read.proofs.LineFacts.{lines-differ, lines-zones}
@@ -49,8 +49,8 @@ pub version-1-equal : Version1PartsAreEqual
 version-1-equal bytes settings one =
     accepted-good bytes (All (λ l. All HasEqualParts l.zones))
     (λ members version lines spelled of is.
-        let same : one.members ≡ members = let e : Some one.members ≡ Some members = sym one.spelled ∙ spelled in cc in
-        let first : version_at (top_of members) ≡ Ok One = ap (λ ms. version_at (top_of ms)) (sym same) ∙ version_one (top_of one.members) one.version in
-        let is_one : version ≡ One = let e : Ok version ≡ Ok One = sym of ∙ first in cc in
-        at_ok (All (λ l. All HasEqualParts l.zones)) (lines_of One (top_of members)) lines (lines-zones One HasEqualParts zone_v1-equal (top_of members)) (ap (λ v. lines_of v (top_of members)) (sym is_one) ∙ is))
+    let same : one.members ≡ members = let e : Some one.members ≡ Some members = sym one.spelled ∙ spelled in cc in
+    let first : version_at (top_of members) ≡ Ok One = ap (λ ms. version_at (top_of ms)) (sym same) ∙ version_one (top_of one.members) one.version in
+    let is_one : version ≡ One = let e : Ok version ≡ Ok One = sym of ∙ first in cc in
+    at_ok (All (λ l. All HasEqualParts l.zones)) (lines_of One (top_of members)) lines (lines-zones One HasEqualParts zone_v1-equal (top_of members)) (ap (λ v. lines_of v (top_of members)) (sym is_one) ∙ is))
     settings

@@ -2,7 +2,7 @@
 use Rattle.std.proofs.Common.{◌≡◌, ℕ, Bool, true, false, List, [], ◌∷◌, ◌++◌, Option, Some, None, Ok, Err, refl, subst}
 use Rattle.std.specs.Prelude.{IfOk}
 use Rattle.toml.specs.Data.{Data, Items, no_items, item}
-use Rattle.settings_read.specs.Walk.{Answer, ◌>>=◌, holds, there, or_default, each}
+use Rattle.settings_read.specs.Walk.{Answer, ◌>>=◌, holds, there, each}
 
 pub then_ok : {A B : Type 0} (m : Answer A) (f : A → Answer B) (P : B → Type 0) → ((x : A) → m ≡ Ok x → IfOk (f x) P) → IfOk (m >>= f) P
 then_ok (Ok x) f P h = h x refl

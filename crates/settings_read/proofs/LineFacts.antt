@@ -1,23 +1,23 @@
 -- What is so of every line and every list of lines that the walk passes.
-use Rattle.std.proofs.Common.{◌≡◌, ◌≢◌, ℕ, ◌<◌, ◌+◌, Bool, true, false, not, ◌&&◌, List, [], ◌∷◌, ◌++◌, Option, Some, None, get_or, length, codes, Ok, refl, rules, arith, ◌∙◌, sym, ap}
-use Rattle.std.specs.Prelude.{IfOk, nat_le}
+use Rattle.std.proofs.Common.{◌≡◌, ◌≢◌, ℕ, ◌<◌, ◌+◌, Bool, true, false, not, List, [], ◌∷◌, ◌++◌, get_or, length, codes, Ok, rules, arith}
+use Rattle.std.specs.Prelude.{IfOk}
 use Rattle.std.specs.Str.{bytes_eq}
-use Rattle.std.specs.List.{All, AllPairs, list_any}
+use Rattle.std.specs.List.{All}
 use Rattle.std.proofs.lemmas.Bool.{not-true}
 use Rattle.std.proofs.lemmas.Cmp.{nat_list_eq_equiv}
 use Rattle.std.proofs.lemmas.List.Elements.{All-push}
 use Rattle.std.proofs.lemmas.List.Folds.{list_any_at}
 use Rattle.std.proofs.lemmas.List.Quantifiers.{all_pairs_push}
-use Rattle.toml.specs.Data.{Data, Items, as_array, as_table}
+use Rattle.toml.specs.Data.{Data, Items, as_table}
 use Rattle.relay_settings.specs.Settings.{PlainLine}
 use Rattle.relay_settings.specs.declared.types.ZoneSettings.{ZoneSettings}
 use Rattle.settings_read.specs.declared.version.Version.{Version}
-use Rattle.settings_read.specs.Walk.{Answer, ◌>>=◌, Place, path, found, holds, there, numbered, are_tables, item_count, each}
+use Rattle.settings_read.specs.Walk.{◌>>=◌, Place, path, holds, there, numbered, each}
 use Rattle.settings_read.specs.ZoneList.{zone_at, zones_at}
 use Rattle.settings_read.specs.LineTable.{line_at}
 use Rattle.settings_read.specs.LineList.{is_repeated, new_line_at, line_after, lines_of}
 use Rattle.settings_read.specs.SettingsLaws.{LinesDiffer}
-use Rattle.settings_read.proofs.Chains.{then_ok, at_ok, still_ok, held, each_ok}
+use Rattle.settings_read.proofs.Chains.{then_ok, at_ok, held, each_ok}
 use Rattle.settings_read.proofs.ZoneFacts.{zones-each}
 
 -- none of the lines before has this text

@@ -1,5 +1,5 @@
 -- What is so of every zone and every list of zones that the walk passes.
-use Rattle.std.proofs.Common.{◌≡◌, ℕ, Bool, ◌||◌, ◌+◌, List, [], ◌∷◌, ◌++◌, Option, Some, None, is_some, length, codes, Ok, refl, rules, arith, ◌∙◌, sym}
+use Rattle.std.proofs.Common.{◌≡◌, ℕ, Bool, ◌||◌, ◌+◌, List, [], ◌∷◌, ◌++◌, Some, None, is_some, length, codes, Ok, refl, rules, arith}
 use Rattle.std.specs.Prelude.{IfOk}
 use Rattle.std.specs.List.{All}
 use Rattle.std.proofs.lemmas.List.Elements.{All-push}
@@ -49,9 +49,9 @@ module _ (here : Place) (dir : Dir) (trip swing load : Bool) where
       (λ u some. then_ok (optional_table part_at here (codes "ground")) (λ g. optional_table part_at here (codes "phase") >>= λ p. Ok (zone_of g p dir trip swing load)) HasAPart
       (λ g is_g. then_ok (optional_table part_at here (codes "phase")) (λ p. Ok (zone_of g p dir trip swing load)) HasAPart
       (λ p is_p.
-          let to_ground = at_ok (λ o. is_some o ≡ has (codes "ground")) _ g (optional-there part_at here (codes "ground")) is_g in
-          let to_phase = at_ok (λ o. is_some o ≡ has (codes "phase")) _ p (optional-there part_at here (codes "phase")) is_p in
-          rw (to_ground, to_phase) (held _ 4 (path here (codes "ground")) u some))))
+      let to_ground = at_ok (λ o. is_some o ≡ has (codes "ground")) _ g (optional-there part_at here (codes "ground")) is_g in
+      let to_phase = at_ok (λ o. is_some o ≡ has (codes "phase")) _ p (optional-there part_at here (codes "phase")) is_p in
+      rw (to_ground, to_phase) (held _ 4 (path here (codes "ground")) u some))))
 
 zone_v2-part : (here : Place) → IfOk (zone_v2_at here) HasAPart
 unfolding zone_v2_at

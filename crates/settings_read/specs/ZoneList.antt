@@ -1,5 +1,5 @@
 -- The zones of a line, by the version of the settings.
-use Rattle.std.specs.Prelude.{◌+◌, codes, nat_le, List, [], length, Ok}
+use Rattle.std.specs.Prelude.{◌+◌, codes, nat_le, List, [], length}
 use Rattle.toml.specs.Data.{Data, as_array, as_table}
 use Rattle.relay_settings.specs.declared.types.ZoneSettings.{ZoneSettings}
 use Rattle.settings_read.specs.declared.version.Version.{Version}

@@ -38,7 +38,11 @@ fn has_gocb_ref(done: &[LineSettings], gocb_ref: &[u8]) -> bool
 }
 
 #[tactic(auto, unfolding(crate::specs::LineList::new_line_at))]
-fn new_line_at(version: Version, here: &Place, done: &[LineSettings]) -> Result<LineSettings, Refusal>
+fn new_line_at(
+    version: Version,
+    here: &Place,
+    done: &[LineSettings],
+) -> Result<LineSettings, Refusal>
     requires { length here.now.prefix.bytes ≤ 12 }
     ensures value { seen plain_line result ≡ new_line_at version (plain_place here.now) (plain_lines done.now) }
     ensures ranges { IfOk result IsLine }
@@ -58,7 +62,12 @@ fn new_line_at(version: Version, here: &Place, done: &[LineSettings]) -> Result<
 }
 
 #[tactic(auto, unfolding(crate::specs::LineList::line_after))]
-fn line_after(version: Version, top: &Place, done: &[LineSettings], item: &Value) -> Result<LineSettings, Refusal>
+fn line_after(
+    version: Version,
+    top: &Place,
+    done: &[LineSettings],
+    item: &Value,
+) -> Result<LineSettings, Refusal>
     requires room { length top.now.prefix.bytes ≤ 4 }
     requires few { length done.now < 16 }
     ensures value { seen plain_line result ≡ line_after version (plain_place top.now) (plain_lines done.now) (view item.now) }
@@ -67,7 +76,11 @@ fn line_after(version: Version, top: &Place, done: &[LineSettings], item: &Value
 {
     match item.as_table() {
         None => Err(top.refuse(5, "line")),
-        Some(table) => new_line_at(version, &top.numbered("line", done.len() as u8 + 1, table), done),
+        Some(table) => new_line_at(
+            version,
+            &top.numbered("line", done.len() as u8 + 1, table),
+            done,
+        ),
     }
 }
 

@@ -35,7 +35,12 @@ pub(crate) fn are_tables(items: &[Value]) -> bool
 }
 
 #[tactic(auto, unfolding(crate::specs::ZoneList::zone_after))]
-fn zone_after(version: Version, line: &Place, done: &[ZoneSettings], item: &Value) -> Result<ZoneSettings, Refusal>
+fn zone_after(
+    version: Version,
+    line: &Place,
+    done: &[ZoneSettings],
+    item: &Value,
+) -> Result<ZoneSettings, Refusal>
     requires room { length line.now.prefix.bytes ≤ 12 }
     requires few { length done.now < 5 }
     ensures value { seen (λ z. z) result ≡ zone_after version (plain_place line.now) done.now (view item.now) }
@@ -47,7 +52,11 @@ fn zone_after(version: Version, line: &Place, done: &[ZoneSettings], item: &Valu
     }
 }
 
-fn zones_from(version: Version, line: &Place, items: &[Value]) -> Result<ArrayVec<ZoneSettings, 5>, Refusal>
+fn zones_from(
+    version: Version,
+    line: &Place,
+    items: &[Value],
+) -> Result<ArrayVec<ZoneSettings, 5>, Refusal>
     requires room { length line.now.prefix.bytes ≤ 12 }
     requires few { length items.now ≤ 5 }
     ensures value { seen (λ z. z.items) result ≡ each (zone_after version (plain_place line.now)) [] (items_view items.now) }
@@ -62,7 +71,11 @@ fn zones_from(version: Version, line: &Place, items: &[Value]) -> Result<ArrayVe
 }
 
 #[tactic(auto, unfolding(crate::specs::ZoneList::zones_of), using(crate::proofs::Items::on_items))]
-fn zones_of(version: Version, line: &Place, value: &Value) -> Result<ArrayVec<ZoneSettings, 5>, Refusal>
+fn zones_of(
+    version: Version,
+    line: &Place,
+    value: &Value,
+) -> Result<ArrayVec<ZoneSettings, 5>, Refusal>
     requires { length line.now.prefix.bytes ≤ 12 }
     ensures value { seen (λ z. z.items) result ≡ zones_of version (plain_place line.now) (view value.now) }
     ensures ranges { IfOk result (λ z. All IsZone z.items) }
