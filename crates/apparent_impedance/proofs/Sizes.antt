@@ -1,5 +1,5 @@
 -- How great an impedance becomes, as a fraction over the square of the current's size.
-use Rattle.std.proofs.Common.{◌≡◌, ◌*◌, ◌^◌, ◌<◌, ◌≤◌, ◌*ℤ◌, ℤ, pos, arith, lit≤, unsigned_abs, FitsSigned, to_z-of_z}
+use Rattle.std.proofs.Common.{◌≡◌, ℕ, ◌*◌, ◌^◌, ◌<◌, ◌≤◌, ◌*ℤ◌, ℤ, pos, arith, lit≤, unsigned_abs, FitsSigned, to_z-of_z}
 use Rattle.std.specs.Int.{w128}
 use Rattle.relay_num.specs.declared.Cx.{Cx}
 use Rattle.relay_num.specs.Numbers.{IsBelow, scaled, conjugate, norm}
@@ -7,15 +7,22 @@ use Rattle.relay_num.proofs.Signed.{size-product}
 use Rattle.relay_num.proofs.Wide.{held, fits_128, IsBelow-product, IsBelow-weaker, IsBelow-conjugate, size-norm}
 use Rattle.apparent_impedance.specs.Impedance.{apparent}
 
-pub apparent_below : (u i : Cx) → IsBelow u (2 ^ 32) → IsBelow i (2 ^ 32) → IsBelow (apparent u i) (2 ^ 80)
+-- a voltage times a scale
+pub volts_below : (scale : ℕ) (u : Cx) → scale ≤ 10000000 → IsBelow u (2 ^ 32) → IsBelow (scaled scale u) (10000001 * 2 ^ 32)
+volts_below scale u few h = record {
+  re = size-product (pos scale) u.re 10000001 (2 ^ 32) (omega arith) h.re;
+  im = size-product (pos scale) u.im 10000001 (2 ^ 32) (omega arith) h.im;
+}
+
+-- an impedance in milliohms
+pub apparent_below : (u i : Cx) → IsBelow u (2 ^ 32) → IsBelow i (2 ^ 32) → IsBelow (apparent 10000 u i) (2 ^ 80)
 apparent_below u i h k =
     let volts : IsBelow (scaled 10000 u) (10001 * 2 ^ 32) = record {
       re = size-product (pos 10000) u.re 10001 (2 ^ 32) (omega arith) h.re;
       im = size-product (pos 10000) u.im 10001 (2 ^ 32) (omega arith) h.im;
     } in
-    let current = IsBelow-conjugate i (2 ^ 32) k in
     IsBelow-weaker _ _ (2 ^ 80)
-    (IsBelow-product (scaled 10000 u) (conjugate i) (10001 * 2 ^ 32) (2 ^ 32) volts current) (lit≤ tt)
+    (IsBelow-product (scaled 10000 u) (conjugate i) (10001 * 2 ^ 32) (2 ^ 32) volts (IsBelow-conjugate i (2 ^ 32) k)) (lit≤ tt)
 
 pub norm_below : (i : Cx) → IsBelow i (2 ^ 32) → unsigned_abs (norm i) < 2 ^ 66
 norm_below i h = omega (arith, size-norm i (2 ^ 32) h)

@@ -1,20 +1,28 @@
 //! The apparent impedance of a voltage and a current, as a fraction that is compared without a division.
 //!
-//! Voltages are phasors or sequence parts in counts of 10 mV and currents in counts of 1 mA, so that their
-//! quotient times 10 000 is in milliohms. Resistance and reactance are told by their size alone, as the
+//! Voltages are phasors, sequence parts or loop voltages in counts of 10 mV, and currents in counts of 1 mA or,
+//! of loops, in thousandths of that: their quotient times `PHASOR_SCALE` or `LOOP_SCALE` is in milliohms. Resistance and reactance are told by their size alone, as the
 //! blinders of a power swing and the range of a load ask. Every part is below 2^80 in size, and a compared
 //! one below 2^86. It stands on `relay_num` for complex numbers.
 #![tactic(auto)]
 
 ghost use Rattle.std.specs.Prelude.{◌≡◌, ◌^◌, ◌<◌, ◌≤◌, ◌*ℤ◌};
 ghost use Rattle.std.specs.Int.RustNames.{unsigned_abs};
+ghost use Rattle.relay_num.specs.Bounds.{sequence_bound, loop_current_bound};
 ghost use Rattle.relay_num.specs.Numbers.{IsBelow, value_of, scaled, norm};
-ghost use Rattle.apparent_impedance.specs.Impedance.{apparent, resistance, reactance};
+ghost use Rattle.apparent_impedance.specs.Impedance.{apparent, phasor_scale, loop_scale, resistance, reactance};
 
 use relay_num::{Cx, Cx128, mul_conj, norm};
 
 #[cfg(test)]
 mod tests;
+
+/// The scale that gives milliohms, of a voltage in counts of 10 mV and a current in counts of 1 mA.
+pub const PHASOR_SCALE: u32 = 10_000;
+
+/// The scale that gives milliohms, of a voltage in counts of 10 mV and a loop's current, which is in
+/// thousandths of 1 mA.
+pub const LOOP_SCALE: u32 = 10_000_000;
 
 /// How great an impedance is along both axes, in milliohms, as fractions over `square`.
 #[derive(Clone, Copy, Drop)]
@@ -43,13 +51,13 @@ impl Impedance {
 
 /// The impedance of the voltage `u` and the current `i`, whose parts are below 2^32 in size.
 pub fn impedance_of(u: Cx, i: Cx) -> Impedance
-    requires u { IsBelow u (2 ^ 32) }
-    requires i { IsBelow i (2 ^ 32) }
+    requires u { IsBelow u sequence_bound }
+    requires i { IsBelow i sequence_bound }
     ensures resistance { result.resistance ≡ resistance u i }
     ensures reactance { result.reactance ≡ reactance u i }
     ensures square { result.square ≡ norm i }
 {
-    let apparent = apparent(u, i);
+    let apparent = in_milliohms(u, i);
     Impedance {
         resistance: apparent.re.abs(),
         reactance: apparent.im.abs(),
@@ -57,23 +65,36 @@ pub fn impedance_of(u: Cx, i: Cx) -> Impedance
     }
 }
 
-/// The impedance times the square of the current's size.
-fn apparent(u: Cx, i: Cx) -> Cx128
-    requires u { IsBelow u (2 ^ 32) }
-    requires i { IsBelow i (2 ^ 32) }
-    ensures value { value_of result ≡ apparent u i }
+/// The impedance in milliohms, times the square of the current's size.
+fn in_milliohms(u: Cx, i: Cx) -> Cx128
+    requires u { IsBelow u sequence_bound }
+    requires i { IsBelow i sequence_bound }
+    ensures value { value_of result ≡ apparent phasor_scale u i }
     ensures size { IsBelow (value_of result) (2 ^ 80) }
 {
-    mul_conj(ten_thousand(u), i)
+    apparent(PHASOR_SCALE, u, i)
 }
 
-/// `u` times 10 000, which over a current in counts of 1 mA makes milliohms.
-fn ten_thousand(u: Cx) -> Cx128
-    requires { IsBelow u (2 ^ 32) }
-    ensures { value_of result ≡ scaled 10000 u }
+/// `scale` times the impedance of the voltage `u` and the current `i`, times the square of the current's size.
+/// `scale` is at most 10^7, the voltage's parts are below 2^32 in size and the current's below 2^45.
+pub fn apparent(scale: u32, u: Cx, i: Cx) -> Cx128
+    requires scale { scale ≤ loop_scale }
+    requires u { IsBelow u sequence_bound }
+    requires i { IsBelow i loop_current_bound }
+    ensures { value_of result ≡ apparent scale u i }
 {
+    mul_conj(times(scale, u), i)
+}
+
+/// `scale` times `u`.
+fn times(scale: u32, u: Cx) -> Cx128
+    requires scale { scale ≤ loop_scale }
+    requires u { IsBelow u sequence_bound }
+    ensures { value_of result ≡ scaled scale u }
+{
+    let scale = i128::from(scale);
     Cx128 {
-        re: 10_000 * i128::from(u.re),
-        im: 10_000 * i128::from(u.im),
+        re: scale * i128::from(u.re),
+        im: scale * i128::from(u.im),
     }
 }

@@ -5,7 +5,8 @@
 //! stands on `relay_num` for complex numbers.
 #![tactic(auto)]
 
-ghost use Rattle.std.specs.Prelude.{◌≡◌, ◌^◌, ◌<◌, IfSome};
+ghost use Rattle.std.specs.Prelude.{◌≡◌, IfSome};
+ghost use Rattle.relay_num.specs.Bounds.{reach_bound, loop_current_bound, polarising_bound, sequence_bound};
 ghost use Rattle.relay_num.specs.Numbers.{IsBelow};
 ghost use Rattle.direction.specs.Torques.{side, sense_by_negative, sense_by_polarising, direction_of};
 
@@ -32,10 +33,10 @@ pub enum Sense {
 /// one the direction is `Neither`. Parts are below 2^20 in size for `zl`, 2^45 for `i`, 2^34 for
 /// `pol`, and 2^32 for `minus`.
 pub fn loop_direction(zl: Cx, i: Cx, pol: Option<Cx>, minus: Option<(Cx, Cx)>) -> Sense
-    requires zl { IsBelow zl (2 ^ 20) }
-    requires i { IsBelow i (2 ^ 45) }
-    requires pol { IfSome pol (λ p. IsBelow p (2 ^ 34)) }
-    requires minus { IfSome minus (λ m. IsBelow m.0 (2 ^ 32) × IsBelow m.1 (2 ^ 32)) }
+    requires zl { IsBelow zl reach_bound }
+    requires i { IsBelow i loop_current_bound }
+    requires pol { IfSome pol (λ p. IsBelow p polarising_bound) }
+    requires minus { IfSome minus (λ m. IsBelow m.0 sequence_bound × IsBelow m.1 sequence_bound) }
     ensures { result ≡ direction_of zl i pol minus }
 {
     match minus {
@@ -49,9 +50,9 @@ pub fn loop_direction(zl: Cx, i: Cx, pol: Option<Cx>, minus: Option<(Cx, Cx)>) -
 
 /// By the torque of the negative sequence, whose voltage is against its current at a fault ahead.
 fn by_negative(zl: Cx, u2: Cx, i2: Cx) -> Sense
-    requires zl { IsBelow zl (2 ^ 20) }
-    requires u2 { IsBelow u2 (2 ^ 32) }
-    requires i2 { IsBelow i2 (2 ^ 32) }
+    requires zl { IsBelow zl reach_bound }
+    requires u2 { IsBelow u2 sequence_bound }
+    requires i2 { IsBelow i2 sequence_bound }
     ensures { result ≡ sense_by_negative zl u2 i2 }
 {
     let torque = mul_conj(mul(zl, i2), u2).re;
@@ -60,9 +61,9 @@ fn by_negative(zl: Cx, u2: Cx, i2: Cx) -> Sense
 
 /// By the torque of the current against the polarising voltage.
 fn by_polarising(zl: Cx, i: Cx, p: Cx) -> Sense
-    requires zl { IsBelow zl (2 ^ 20) }
-    requires i { IsBelow i (2 ^ 45) }
-    requires p { IsBelow p (2 ^ 34) }
+    requires zl { IsBelow zl reach_bound }
+    requires i { IsBelow i loop_current_bound }
+    requires p { IsBelow p polarising_bound }
     ensures { result ≡ sense_by_polarising zl i p }
 {
     let torque = mul_conj(mul(zl, i), p).re;

@@ -6,7 +6,8 @@
 //! `relay_num` for the products, which are exact, and for the steps.
 #![tactic(auto)]
 
-ghost use Rattle.std.specs.Prelude.{◌≡◌, ◌^◌, ◌+◌};
+ghost use Rattle.std.specs.Prelude.{◌≡◌, ◌+◌};
+ghost use Rattle.relay_num.specs.Bounds.{reach_bound, loop_voltage_bound, loop_current_bound, polarising_bound};
 ghost use Rattle.relay_num.specs.Numbers.{IsBelow};
 ghost use Rattle.mho_zone.specs.Mho.{is_inside_mho};
 
@@ -21,10 +22,10 @@ mod tests;
 /// Systems): the real part of `(z * i - 10^7 * u) * conj(pol)` is above 0. A loop on the circle is
 /// outside. One step, a zone test.
 pub fn mho_inside<L: Ledger>(z: Cx, u: Cx, i: Cx, pol: Cx, steps: &mut Steps<L>) -> bool
-    requires z { IsBelow z (2 ^ 20) }
-    requires u { IsBelow u (2 ^ 31 + 1) }
-    requires i { IsBelow i (2 ^ 45) }
-    requires pol { IsBelow pol (2 ^ 34) }
+    requires z { IsBelow z reach_bound }
+    requires u { IsBelow u loop_voltage_bound }
+    requires i { IsBelow i loop_current_bound }
+    requires pol { IsBelow pol polarising_bound }
     ensures inside { result ≡ is_inside_mho z u i pol }
     ensures cost { steps.new ≡ steps.old + 1 }
 {

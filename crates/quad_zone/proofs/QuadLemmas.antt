@@ -8,7 +8,7 @@ use Rattle.relay_num.proofs.Ring.{mul_comm, mul-neg}
 use Rattle.relay_num.proofs.Wide.{held, IsBelow-product, IsBelow-weaker, IsBelow-conjugate, size-norm, fits_128}
 use Rattle.relay_settings.specs.declared.types.QuadSettings.{QuadSettings}
 use Rattle.relay_settings.specs.Ranges.{IsQuad}
-use Rattle.quad_zone.specs.Quad.{apparent}
+use Rattle.apparent_impedance.specs.Impedance.{apparent, loop_scale}
 
 -- the sizes of settings in their ranges
 pub record Sizes (q : QuadSettings) : Type 0 where
@@ -33,7 +33,7 @@ sizes q h = record {
   back_x = up_to q.back_x 0 1000000 h.back_x.0 h.back_x.1;
 }
 
-pub apparent_below : (u i : Cx) → IsBelow u (2 ^ 31 + 1) → IsBelow i (2 ^ 45) → IsBelow (apparent u i) (2 ^ 110)
+pub apparent_below : (u i : Cx) → IsBelow u (2 ^ 31 + 1) → IsBelow i (2 ^ 45) → IsBelow (apparent loop_scale u i) (2 ^ 110)
 apparent_below u i h k =
     let volts : IsBelow (scaled 10000000 u) (10000001 * (2 ^ 31 + 1)) = record { re = size-product (pos 10000000) u.re 10000001 (2 ^ 31 + 1) (omega arith) h.re; im = size-product (pos 10000000) u.im 10000001 (2 ^ 31 + 1) (omega arith) h.im } in
     IsBelow-weaker _ _ (2 ^ 110) (IsBelow-product (scaled 10000000 u) (conjugate i) (10000001 * (2 ^ 31 + 1)) (2 ^ 45) volts (IsBelow-conjugate i (2 ^ 45) k)) (lit≤ tt)
@@ -80,9 +80,3 @@ tilted x k y a b c =
     let fr : FitsSigned w128 (k *ℤ y) = fits_128 _ _ right (lit≤ tt) in
     let f : FitsSigned w128 (pos 1000 *ℤ x +ℤ k *ℤ y) = fits_128 _ _ (size-sum (pos 1000 *ℤ x) (k *ℤ y) _ _ left right) (lit≤ tt) in
     record { fits = simp to_z-of_z f; is = simp to_z-of_z }
-
-pub volts_below : (u : Cx) → IsBelow u (2 ^ 31 + 1) → IsBelow (scaled 10000000 u) (2 ^ 80)
-volts_below u h = record {
-  re = omega (arith, size-product (pos 10000000) u.re 10000001 (2 ^ 31 + 1) (omega arith) h.re);
-  im = omega (arith, size-product (pos 10000000) u.im 10000001 (2 ^ 31 + 1) (omega arith) h.im);
-}

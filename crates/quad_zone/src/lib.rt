@@ -2,17 +2,20 @@
 //!
 //! Voltages are counts of 10 mV, loop currents thousandths of 1 mA, reaches milliohms, tilt and slope
 //! thousandths. The sides are compared without a division, each multiplied by the square of the
-//! current's size; every such product is below 2^122. It stands on `relay_num` for complex numbers and
-//! counted steps, and on `relay_settings` for the zone's settings.
+//! current's size; every such product is below 2^122. It stands on `apparent_impedance` for the impedance as
+//! a fraction, on `relay_num` for complex numbers and counted steps, and on `relay_settings` for the zone's
+//! settings.
 #![tactic(auto)]
 
 ghost use Rattle.std.specs.Prelude.{◌≡◌, ◌^◌, ◌+◌, ◌<◌, ◌≤◌, ◌*ℤ◌, ◌+ℤ◌, pos};
 ghost use Rattle.std.specs.Int.RustNames.{unsigned_abs};
-ghost use Rattle.relay_num.specs.Numbers.{IsBelow, value_of, scaled};
+ghost use Rattle.relay_num.specs.Bounds.{loop_voltage_bound, loop_current_bound};
+ghost use Rattle.relay_num.specs.Numbers.{IsBelow};
 ghost use Rattle.relay_settings.specs.Ranges.{IsQuad};
 ghost use Rattle.quad_zone.specs.Quad.{is_inside_quad};
 
-use relay_num::{Cx, Cx128, Steps, mul_conj, norm};
+use apparent_impedance::{LOOP_SCALE, apparent};
+use relay_num::{Cx, Steps, norm};
 use relay_settings::QuadSettings;
 use std::sync::ledger::Ledger;
 
@@ -26,13 +29,13 @@ mod tests;
 /// A zone that looks backwards hands in the negative of its current.
 pub fn quad_inside<L: Ledger>(q: &QuadSettings, u: Cx, i: Cx, steps: &mut Steps<L>) -> bool
     requires settings { IsQuad q.now }
-    requires u { IsBelow u (2 ^ 31 + 1) }
-    requires i { IsBelow i (2 ^ 45) }
+    requires u { IsBelow u loop_voltage_bound }
+    requires i { IsBelow i loop_current_bound }
     ensures inside { result ≡ is_inside_quad q.now u i }
     ensures cost { steps.new ≡ steps.old + 1 }
 {
     steps.tick();
-    let apparent = mul_conj(ten_million(u), i);
+    let apparent = apparent(LOOP_SCALE, u, i);
     let size = norm(i);
     let top = tilted(apparent.im, q.tilt, apparent.re);
     let side = tilted(apparent.re, -q.slope, apparent.im);
@@ -41,17 +44,6 @@ pub fn quad_inside<L: Ledger>(q: &QuadSettings, u: Cx, i: Cx, steps: &mut Steps<
     let right = times(1000 * q.reach_r, size);
     let back = times(-q.back_x, size);
     (size > 0) & (top <= far) & (left <= side) & (side <= right) & (back <= apparent.im)
-}
-
-/// `u` times 10^7, which over a current in thousandths of 1 mA makes milliohms.
-fn ten_million(u: Cx) -> Cx128
-    requires { IsBelow u (2 ^ 32) }
-    ensures { value_of result ≡ scaled 10000000 u }
-{
-    Cx128 {
-        re: 10_000_000 * i128::from(u.re),
-        im: 10_000_000 * i128::from(u.im),
-    }
 }
 
 /// `1000 * x + k * y`

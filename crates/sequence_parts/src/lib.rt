@@ -5,11 +5,12 @@
 //! stands on `relay_num` for complex numbers and their turns.
 #![tactic(auto)]
 
-ghost use Rattle.std.specs.Prelude.{◌≡◌, ◌^◌, ◌+◌};
+ghost use Rattle.std.specs.Prelude.{◌≡◌, ◌^◌};
+ghost use Rattle.relay_num.specs.Bounds.{phasor_bound, sequence_bound};
 ghost use Rattle.relay_num.specs.Numbers.{IsBelow, sum};
 ghost use Rattle.sequence_parts.specs.Sequences.{sequence_of};
 
-use relay_num::{Cx, times_a, times_a2};
+use relay_num::{Cx, sum, times_a, times_a2};
 
 #[cfg(test)]
 mod tests;
@@ -25,13 +26,13 @@ pub struct Sequence {
 /// The components of the phases A, B and C, whose parts are at most 2^30 in size. Their own parts are
 /// below 2^32.
 pub fn parts(a: Cx, b: Cx, c: Cx) -> Sequence
-    requires a { IsBelow a (2 ^ 30 + 1) }
-    requires b { IsBelow b (2 ^ 30 + 1) }
-    requires c { IsBelow c (2 ^ 30 + 1) }
+    requires a { IsBelow a phasor_bound }
+    requires b { IsBelow b phasor_bound }
+    requires c { IsBelow c phasor_bound }
     ensures parts { result ≡ sequence_of a b c }
-    ensures zero { IsBelow result.zero (2 ^ 32) }
-    ensures plus { IsBelow result.plus (2 ^ 32) }
-    ensures minus { IsBelow result.minus (2 ^ 32) }
+    ensures zero { IsBelow result.zero sequence_bound }
+    ensures plus { IsBelow result.plus sequence_bound }
+    ensures minus { IsBelow result.minus sequence_bound }
 {
     Sequence {
         zero: added(a, b, c),
@@ -47,8 +48,5 @@ fn added(a: Cx, b: Cx, c: Cx) -> Cx
     requires c { IsBelow c (2 ^ 60) }
     ensures { result ≡ sum (sum a b) c }
 {
-    Cx {
-        re: a.re + b.re + c.re,
-        im: a.im + b.im + c.im,
-    }
+    sum(sum(a, b), c)
 }

@@ -1,12 +1,13 @@
 //! Which loops have the least current.
 
-ghost use Rattle.std.specs.Prelude.{◌≡◌, ◌^◌, ◌<◌, ◌≤◌, ◌⊎◌, [], ◌∷◌};
+ghost use Rattle.std.specs.Prelude.{◌≡◌, ◌<◌, ◌≤◌, ◌⊎◌, [], ◌∷◌};
+ghost use Rattle.relay_num.specs.Bounds.{sequence_bound};
 ghost use Rattle.relay_num.specs.Numbers.{IsBelow, difference, is_at_least};
 ghost use Rattle.loop_impedance.specs.Loops.{ArePhasesBelow, item};
 ghost use Rattle.loop_impedance.specs.Masks.{mask};
 ghost use Rattle.supervise.specs.Current.{allowed};
 
-use relay_num::{Cx, at_least_rms};
+use relay_num::{Cx, at_least_rms, difference};
 
 /// The mask of the loops that have the least current: bit 0 for AG, then BG, CG, AB, BC and CA.
 ///
@@ -15,8 +16,8 @@ use relay_num::{Cx, at_least_rms};
 /// phasors of `n` samples a cycle, 80 or 96. Minima are counts rms, at most 10^8; parts are below 2^32 in
 /// size.
 pub fn current_allowed(i: &[Cx; 3], i0: Cx, n: u32, i_min: u32, i0_min: u32) -> u8
-    requires i { ArePhasesBelow i.now (2 ^ 32) }
-    requires i0 { IsBelow i0 (2 ^ 32) }
+    requires i { ArePhasesBelow i.now sequence_bound }
+    requires i0 { IsBelow i0 sequence_bound }
     requires n { (n ≡ 80) ⊎ (n ≡ 96) }
     requires i_min { i_min ≤ 100000000 }
     requires i0_min { i0_min ≤ 100000000 }
@@ -35,26 +36,13 @@ pub fn current_allowed(i: &[Cx; 3], i0: Cx, n: u32, i_min: u32, i0_min: u32) -> 
 
 /// Whether `a` less `b` is at least `least` counts rms.
 fn between_at_least(a: Cx, b: Cx, n: u32, least: u32) -> bool
-    requires a { IsBelow a (2 ^ 32) }
-    requires b { IsBelow b (2 ^ 32) }
+    requires a { IsBelow a sequence_bound }
+    requires b { IsBelow b sequence_bound }
     requires n { (n ≡ 80) ⊎ (n ≡ 96) }
     requires least { least ≤ 100000000 }
     ensures { result ≡ is_at_least (difference a b) n least }
 {
-    at_least_rms(less(a, b), n, least)
-}
-
-/// `a` less `b`.
-fn less(a: Cx, b: Cx) -> Cx
-    requires a { IsBelow a (2 ^ 32) }
-    requires b { IsBelow b (2 ^ 32) }
-    ensures value { result ≡ difference a b }
-    ensures size { IsBelow result (2 ^ 48) }
-{
-    Cx {
-        re: a.re - b.re,
-        im: a.im - b.im,
-    }
+    at_least_rms(difference(a, b), n, least)
 }
 
 /// The mask of three bits, the lowest first.

@@ -2,6 +2,7 @@
 
 ghost use Rattle.std.specs.Prelude.{◌≡◌, ◌^◌, ◌<◌, ◌≤◌, ◌*ℤ◌, ◌&&◌, pos};
 ghost use Rattle.std.specs.Int.RustNames.{unsigned_abs, int_lt, int_le};
+ghost use Rattle.relay_num.specs.Bounds.{sequence_bound};
 ghost use Rattle.relay_num.specs.Numbers.{IsBelow};
 ghost use Rattle.relay_settings.specs.Ranges.{IsLoad};
 ghost use Rattle.supervise.specs.Load.{is_load};
@@ -16,8 +17,8 @@ use relay_settings::LoadSettings;
 /// of the resistance. Without current there is no load.
 pub fn load_blocks(s: &LoadSettings, u1: Cx, i1: Cx) -> bool
     requires settings { IsLoad s.now }
-    requires u1 { IsBelow u1 (2 ^ 32) }
-    requires i1 { IsBelow i1 (2 ^ 32) }
+    requires u1 { IsBelow u1 sequence_bound }
+    requires i1 { IsBelow i1 sequence_bound }
     ensures { result ≡ is_load s.now u1 i1 }
 {
     let z = impedance_of(u1, i1);

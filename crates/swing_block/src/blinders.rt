@@ -2,6 +2,7 @@
 
 ghost use Rattle.std.specs.Prelude.{◌≡◌, ◌^◌, ◌<◌, ◌≤◌, ◌*ℤ◌, ◌&&◌, pos};
 ghost use Rattle.std.specs.Int.RustNames.{unsigned_abs, int_le, int_lt};
+ghost use Rattle.relay_num.specs.Bounds.{sequence_bound};
 ghost use Rattle.relay_num.specs.Numbers.{IsBelow, norm};
 ghost use Rattle.relay_settings.specs.Ranges.{IsSwing};
 ghost use Rattle.swing_block.specs.Blinders.{place_of, is_unbalanced};
@@ -52,8 +53,8 @@ impl SwingPlace {
 /// `Outside`; without current it is `Outside`.
 pub fn swing_place(s: &SwingSettings, u1: Cx, i1: Cx) -> SwingPlace
     requires settings { IsSwing s.now }
-    requires u1 { IsBelow u1 (2 ^ 32) }
-    requires i1 { IsBelow i1 (2 ^ 32) }
+    requires u1 { IsBelow u1 sequence_bound }
+    requires i1 { IsBelow i1 sequence_bound }
     ensures { result ≡ place_of s.now u1 i1 }
 {
     let z = impedance_of(u1, i1);
@@ -80,8 +81,8 @@ fn is_within_blinder(z: &Impedance, r: i64, x: i64) -> bool
 /// thousandths of 3I1, `i1`, in size. A line without any current is. Parts are below 2^32 in size.
 pub fn unbalanced(s: &SwingSettings, i1: Cx, i2: Cx) -> bool
     requires settings { IsSwing s.now }
-    requires i1 { IsBelow i1 (2 ^ 32) }
-    requires i2 { IsBelow i2 (2 ^ 32) }
+    requires i1 { IsBelow i1 sequence_bound }
+    requires i2 { IsBelow i2 sequence_bound }
     ensures { result ≡ is_unbalanced s.now i1 i2 }
 {
     let share = s.i2_share * s.i2_share;

@@ -71,16 +71,40 @@ fn a_loop_without_its_part_is_outside(rt: HostRuntime) {
 
 #[test]
 fn a_reverse_zone_sees_the_current_turned_round(rt: HostRuntime) {
-    assert_eq!(rt; inside::<Brand>(MHO, false, AHEAD, POL, Blank::new(1)), true);
-    assert_eq!(rt; inside::<Brand>(MHO, true, AHEAD, POL, Blank::new(1)), false);
-    assert_eq!(rt; inside::<Brand>(MHO, true, BEHIND, POL, Blank::new(1)), true);
-    assert_eq!(rt; inside::<Brand>(QUAD, false, AHEAD, POL, Blank::new(1)), true);
-    assert_eq!(rt; inside::<Brand>(QUAD, true, AHEAD, POL, Blank::new(1)), false);
-    assert_eq!(rt; inside::<Brand>(QUAD, true, BEHIND, POL, Blank::new(1)), true);
+    assert_eq!(rt;
+        inside::<Brand>(MHO, false, AHEAD, POL, Blank::new(1)),
+        true
+    );
+    assert_eq!(rt;
+        inside::<Brand>(MHO, true, AHEAD, POL, Blank::new(1)),
+        false
+    );
+    assert_eq!(rt;
+        inside::<Brand>(MHO, true, BEHIND, POL, Blank::new(1)),
+        true
+    );
+    assert_eq!(rt;
+        inside::<Brand>(QUAD, false, AHEAD, POL, Blank::new(1)),
+        true
+    );
+    assert_eq!(rt;
+        inside::<Brand>(QUAD, true, AHEAD, POL, Blank::new(1)),
+        false
+    );
+    assert_eq!(rt;
+        inside::<Brand>(QUAD, true, BEHIND, POL, Blank::new(1)),
+        true
+    );
 }
 
 #[test]
 fn a_mho_alone_asks_for_a_polarising_voltage(rt: HostRuntime) {
-    assert_eq!(rt; inside::<Brand>(MHO, false, AHEAD, None, Blank::new(1)), false);
-    assert_eq!(rt; inside::<Brand>(QUAD, false, AHEAD, None, Blank::new(1)), true);
+    assert_eq!(rt;
+        inside::<Brand>(MHO, false, AHEAD, None, Blank::new(1)),
+        false
+    );
+    assert_eq!(rt;
+        inside::<Brand>(QUAD, false, AHEAD, None, Blank::new(1)),
+        true
+    );
 }
