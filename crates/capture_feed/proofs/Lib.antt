@@ -3,6 +3,8 @@ pub mod Taking
 pub mod Handing
 pub mod Asking
 pub mod PcapRecords
+pub mod PcapngBlocks
+pub mod PcapngRecords
 pub mod PcapHeader
 pub mod Beginning
 pub mod Stepping

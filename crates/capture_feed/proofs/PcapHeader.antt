@@ -3,7 +3,9 @@ use Rattle.std.proofs.Common.{◌≡◌, ℕ, ◌≤◌, ◌<◌, ◌⊎◌, inl
 use Rattle.std.specs.Prelude.{Some, None, nat_lt, if◌then◌else◌}
 use Rattle.std.specs.Option.{option_map}
 use Rattle.std.proofs.lemmas.Bool.Decides.{nat_tests}
-use Rattle.capture_feed.specs.Captures.{Format, header_format, format, records, records_in}
+use Rattle.capture_feed.specs.Pcap.{pcap_order}
+use Rattle.capture_feed.specs.Captures.{Format, Pcap, Pcapng, header_format, format, records, records_in}
+use Rattle.capture_feed.specs.Pcapng.{is_pcapng_header}
 use Rattle.capture_feed.specs.Left.{HasNoHeader}
 use Rattle.capture_feed.proofs.Asking.{whole_is, either_way}
 
@@ -42,3 +44,9 @@ no_header whole read left e enough none = record {
     | inr short ↦ elim enough [ inl long ↦ absurd (omega arith) | inr ended ↦ ap format (whole_is whole read left e ended) ∙ none ]
   ]);
 }
+
+pub pcapng_format : (xs : List ℕ) → is_pcapng_header xs ≡ true → header_format xs ≡ Some Pcapng
+pcapng_format xs h = ap (λ (b : Bool). if b then Some Pcapng else option_map Pcap (pcap_order xs)) h
+
+pub pcap_format : (xs : List ℕ) → is_pcapng_header xs ≡ false → header_format xs ≡ option_map Pcap (pcap_order xs)
+pcap_format xs h = ap (λ (b : Bool). if b then Some Pcapng else option_map Pcap (pcap_order xs)) h

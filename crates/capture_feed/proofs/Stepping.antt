@@ -5,11 +5,15 @@ use Rattle.room_io.specs.Room.{RoomState, Rose}
 use Rattle.capture_feed.specs.Records.{Records, TooLong, Cut, Damaged, stopped}
 use Rattle.capture_feed.specs.Reads.{OnlyReads}
 use Rattle.capture_feed.specs.Answers.{Goes, Gives, StopsAs}
-use Rattle.capture_feed.specs.Pieces.{Lends, GivesPiece}
+use Rattle.capture_feed.specs.Pieces.{Lends, GivesPiece, left_by}
 use Rattle.capture_feed.specs.Left.{found}
 use Rattle.capture_feed.specs.declared.stop.FeedStop.{FeedStop}
 use Rattle.capture_feed.specs.declared.stop.FeedStop.TheVariants as stops
 use Rattle.capture_feed.specs.declared.piece.Place.{Place}
+use Rattle.capture_feed.specs.Sections.{plain_section}
+use Rattle.capture_feed.specs.declared.cursor.Cursor.{Cursor}
+use Rattle.capture_feed.specs.declared.cursor.Cursor.TheVariants as cursors
+use Rattle.capture_feed.specs.declared.block.Block.{Block}
 use Rattle.capture_feed.specs.declared.feed.Feed.{Feed}
 use Rattle.capture_feed.proofs.PieceLoops.{told_after}
 use Rattle.capture_feed.proofs.Handing.{Goes-then, stop-then, none-then}
@@ -45,7 +49,11 @@ goes-on {before} {mid} {after} {items} {old} {now} {new} goes piece = by_body pi
     by_body None g l = Goes-then goes g
     by_body (Some body) g l = absurd l
 
+long-by : (by : Cursor) (block : Block) (limit taken : ℕ) (left : List ℕ) → limit ≤ taken → left_by by block limit taken left ≡ stopped TooLong
+long-by (cursors.Pcap is_big) block limit taken left h = records-long _ limit is_big taken _ h
+long-by (cursors.Pcapng section) block limit taken left h = records-long _ limit (plain_section section) taken _ h
+
 -- the limit was taken
 pub found-long : (feed : Feed) (left : List ℕ) → feed.limit ≤ feed.taken → found feed left ≡ stopped TooLong
 unfolding found
-found-long feed left h = records-long _ feed.limit feed.is_big feed.taken _ h
+found-long feed left h = long-by feed.cursor feed.block feed.limit feed.taken left h

@@ -4,7 +4,7 @@ use Rattle.room_io.specs.Room.{RoomState}
 use Rattle.capture_feed.specs.Records.{Records, Whole, stopped}
 use Rattle.capture_feed.specs.Captures.{format, records}
 use Rattle.capture_feed.specs.Block.{pending}
-use Rattle.capture_feed.specs.Pieces.{left_by}
+use Rattle.capture_feed.specs.Pieces.{left_by, IsUnsectioned}
 use Rattle.capture_feed.specs.Reads.{OnlyReads}
 use Rattle.capture_feed.specs.Answers.{Gives, StopsAs}
 use Rattle.capture_feed.specs.declared.stop.FeedStop.{FeedStop}
@@ -13,7 +13,7 @@ use Rattle.capture_feed.specs.declared.feed.Feed.{Feed}
 
 -- the records that the feed has still to hand out, where the input has these bytes left
 unfoldable pub found : Feed → List ℕ → Records
-found feed left = left_by feed.is_big feed.block feed.limit feed.taken left
+found feed left = left_by feed.cursor feed.block feed.limit feed.taken left
 
 -- whether the next record may be asked for
 abbrev pub is_live : Feed → Bool
@@ -21,7 +21,7 @@ is_live feed = feed.is_live
 
 -- nothing was read yet
 abbrev pub IsFresh : Feed → Type 0
-IsFresh feed = (feed.is_live ≡ false) × (pending feed.block ≡ [])
+IsFresh feed = (feed.is_live ≡ false) × (pending feed.block ≡ []) × (feed.taken ≡ 0) × IsUnsectioned feed.cursor
 
 -- how many bytes were taken so far
 abbrev pub taken_by : Feed → ℕ

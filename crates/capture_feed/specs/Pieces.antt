@@ -1,18 +1,42 @@
 -- What a format's reader tells of the next piece of a capture.
-use Rattle.std.specs.Prelude.{◌≡◌, ℕ, Bool, ◌+◌, ◌++◌, ◌^◌, ◌≤◌, ◌<◌, List, length, take, drop, min, Option, None, Some, Result, IfOk, IfSome, IfNone, IfErr, IsTrue, vec_len}
+use Rattle.std.specs.Prelude.{◌≡◌, ℕ, ◌+◌, ◌++◌, ◌^◌, ◌≤◌, ◌<◌, List, length, take, drop, min, Option, None, Some, Result, IfOk, IfSome, IfNone, IfErr, IsTrue, vec_len}
 use Rattle.room_io.specs.Room.{RoomState}
 use Rattle.capture_feed.specs.Records.{Records, Whole, stopped, records_from}
 use Rattle.capture_feed.specs.Pcap.{first_record}
+use Rattle.capture_feed.specs.Pcapng.{first_block, no_section}
+use Rattle.capture_feed.specs.Sections.{plain_section}
 use Rattle.capture_feed.specs.Block.{pending}
 use Rattle.capture_feed.specs.Answers.{Goes, StopsAs}
 use Rattle.capture_feed.specs.declared.block.Block.{Block}
 use Rattle.capture_feed.specs.declared.stop.FeedStop.{FeedStop}
 use Rattle.capture_feed.specs.declared.piece.Piece.{Piece}
 use Rattle.capture_feed.specs.declared.piece.Place.{Place}
+use Rattle.capture_feed.specs.declared.content.Content.{Content}
+use Rattle.capture_feed.specs.declared.content.Content.TheVariants.{Description, Packet, Passed}
+use Rattle.capture_feed.specs.declared.cursor.Cursor.{Cursor}
+use Rattle.capture_feed.specs.declared.cursor.Cursor.TheVariants.{Pcap, Pcapng}
 
 -- the records that are left of an input, behind what the block holds of it and `taken` bytes before
-abbrev pub left_by : Bool → Block → ℕ → ℕ → List ℕ → Records
-left_by is_big block limit taken left = records_from first_record limit is_big taken (pending block ++ left)
+abbrev pub left_by : Cursor → Block → ℕ → ℕ → List ℕ → Records
+left_by (Pcap is_big) block limit taken left = records_from first_record limit is_big taken (pending block ++ left)
+left_by (Pcapng section) block limit taken left = records_from first_block limit (plain_section section) taken (pending block ++ left)
+
+-- no section was begun
+abbrev pub IsUnsectioned : Cursor → Type 0
+IsUnsectioned (Pcap is_big) = ⊥
+IsUnsectioned (Pcapng section) = plain_section section ≡ no_section
+
+-- where the packet of a block that begins here stands
+abbrev pub place_at : Content → ℕ → Option Place
+place_at (Packet from captured) at = Some (record { at = at + from; captured = captured })
+place_at (Description interface) at = None
+place_at Passed at = None
+
+-- a packet's bytes begin near
+abbrev pub IsNear : Content → Type 0
+IsNear (Packet from captured) = from ≤ 28
+IsNear (Description interface) = Unit {0}
+IsNear Passed = Unit {0}
 
 -- the record's captured bytes stand at this place, as far as they are lent
 abbrev pub Lends : List ℕ → Option (List ℕ) → Option Place → Type 0

@@ -1,5 +1,5 @@
 //! The bytes of a capture that were read ahead, in one block of memory.
-ghost use Rattle.std.specs.Prelude.{◌≡◌, ◌+◌, ◌-◌, ◌^◌, ◌≤◌, ◌<◌, ◌++◌, [], length, drop, take, vec_len, vec_capacity, IsTrue, true, false, IfOk, OnOk, OnErr, is_ok};
+ghost use Rattle.std.specs.Prelude.{◌≡◌, ◌+◌, ◌-◌, ◌^◌, ◌≤◌, ◌<◌, ◌++◌, ◌∷◌, [], length, drop, take, vec_len, vec_capacity, IsTrue, true, false, IfOk, IfSome, IfNone, OnOk, OnErr, is_ok};
 ghost use Rattle.room_io.specs.Room.{IsReadyIn, Rose};
 ghost use Rattle.room_io.specs.declared.room.Slot.TheVariants.{Capture};
 ghost use Rattle.capture_feed.specs.Reads.{OnlyReads, Passes, BreaksOff};
@@ -182,5 +182,62 @@ impl Block {
             Ok(all) => Ok(all),
             Err(fault) => Err(fault),
         }
+    }
+
+    /// Takes the next byte; `None` at the input's end.
+    fn next_byte<R: Room>(&mut self, room: &mut R) -> Result<Option<u8>, Fault>
+        requires ready { IsReadyIn Capture (R.state room.old) }
+        ensures bytes { self.new.bytes ≡ self.old.bytes }
+        ensures some { IfOk result (λ got. IfSome got (λ byte. IsTrue (R.state room.old).tells →
+            pending self.old ++ (R.state room.old).capture.bytes ≡
+            byte ∷ (pending self.new ++ (R.state room.new).capture.bytes))) }
+        ensures none { IfOk result (λ got. IfNone got (IsTrue (R.state room.old).tells →
+            pending self.old ++ (R.state room.old).capture.bytes ≡ [])) }
+        ensures broken { OnErr result (IsTrue (R.state room.old).tells →
+            pending self.old ++ (R.state room.old).capture.bytes ≡ (R.state room.new).capture.bytes) }
+        ensures reads { OnlyReads (R.state room.old) (R.state room.new) }
+        ensures failed { OnErr result (Rose (R.state room.old).capture.faults
+            (R.state room.new).capture.faults) }
+    {
+        if self.at < self.bytes.len() {
+            let byte = self.bytes[self.at];
+            self.at += 1;
+            return Ok(Some(byte));
+        }
+        let mut one = [0u8; 1];
+        match room.read(Slot::Capture, &mut one) {
+            Ok(0) => Ok(None),
+            Ok(_) => Ok(Some(one[0])),
+            Err(fault) => Err(fault),
+        }
+    }
+
+    /// Takes the next four bytes; `None` where the input ends before. The bytes that it holds stay
+    /// where they are.
+    pub fn take_four<R: Room>(&mut self, room: &mut R) -> Result<Option<[u8; 4]>, Fault>
+        requires ready { IsReadyIn Capture (R.state room.old) }
+        ensures bytes { self.new.bytes ≡ self.old.bytes }
+        ensures some { IfOk result (λ got. IfSome got (λ four. IsTrue (R.state room.old).tells →
+            pending self.old ++ (R.state room.old).capture.bytes ≡
+            four ++ (pending self.new ++ (R.state room.new).capture.bytes))) }
+        ensures long { IfOk result (λ got. IfSome got (λ four. length four ≡ 4)) }
+        ensures none { IfOk result (λ got. IfNone got (IsTrue (R.state room.old).tells →
+            length (pending self.old ++ (R.state room.old).capture.bytes) < 4)) }
+        ensures broken { OnErr result (IsTrue (R.state room.old).tells →
+            BreaksOff 4 (pending self.old ++ (R.state room.old).capture.bytes)
+            (R.state room.new).capture.bytes) }
+        ensures reads { OnlyReads (R.state room.old) (R.state room.new) }
+        ensures failed { OnErr result (Rose (R.state room.old).capture.faults
+            (R.state room.new).capture.faults) }
+    {
+        let mut four = [0u8; 4];
+        for i in 0..4 {
+            match self.next_byte(room) {
+                Ok(Some(byte)) => four[i] = byte,
+                Ok(None) => return Ok(None),
+                Err(fault) => return Err(fault),
+            }
+        }
+        Ok(Some(four))
     }
 }

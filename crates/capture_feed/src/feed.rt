@@ -8,8 +8,11 @@ ghost use Rattle.capture_feed.specs.Reads.{OnlyReads, BreaksOff};
 ghost use Rattle.capture_feed.specs.Block.{pending};
 
 use crate::block::Block;
-use crate::pcap::{HEADER, MOST_LENT, next_record, order_of};
+use crate::cursor::Cursor;
+use crate::pcap::{HEADER, MOST_LENT, order_of};
+use crate::pcapng::is_header;
 use crate::piece::Place;
+use crate::section::Section;
 use crate::stop::FeedStop;
 use relay_num::NoMemory;
 use room_io::Room;
@@ -33,7 +36,7 @@ pub struct Feed {
     limit: u64,
     block: Block,
     taken: u64,
-    is_big: bool,
+    cursor: Cursor,
     is_live: bool,
     ghost small: { limit ≤ 2 ^ 40 },
 }
@@ -43,21 +46,24 @@ impl Feed {
     ghost use Rattle.capture_feed.specs.contracts.feed.Feed.{the_row};
 
     /// A feed that goes on only while fewer than `limit` bytes were taken, which is from 24 to 2^40.
-    /// It takes one block of 64 KiB, and no later call takes memory.
+    /// It takes one block of 64 KiB and the memory of 256 interfaces, and no later call takes memory.
     pub fn new(alloc: Global, limit: u64) -> Result<Feed, NoMemory>
         requires { (24 ≤ limit) × (limit ≤ 2 ^ 40) }
         ensures { IfOk result (λ feed. IsFresh feed × (limit_of feed ≡ limit)) }
     {
-        match Block::new(alloc) {
-            Ok(block) => Ok(Feed {
-                limit,
-                block,
-                taken: 0,
-                is_big: false,
-                is_live: false,
-            }),
-            Err(none) => Err(none),
-        }
+        let Ok(block) = Block::new(alloc) else {
+            return Err(NoMemory);
+        };
+        let Ok(section) = Section::new(alloc) else {
+            return Err(NoMemory);
+        };
+        Ok(Feed {
+            limit,
+            block,
+            taken: 0,
+            cursor: Cursor::Pcapng(section),
+            is_live: false,
+        })
     }
 
     /// Whether `next` may be called.
@@ -67,7 +73,8 @@ impl Feed {
         self.is_live
     }
 
-    /// How many bytes the header and the records so far make; 24 after a successful `begin`.
+    /// How many bytes were taken: in a pcap file the header and the records so far, in a pcapng file
+    /// the blocks so far. After a successful `begin` 24 or 0.
     pub fn taken(&self) -> u64
         ensures { result ≡ taken_by self.now }
     {
@@ -102,11 +109,15 @@ impl Feed {
         if self.block.held() < HEADER {
             return Err(FeedStop::NotCapture);
         }
+        if is_header(self.block.rest()) {
+            self.is_live = true;
+            return Ok(());
+        }
         match order_of(self.block.rest()) {
             Some(is_big) => {
                 self.block.advance(HEADER);
                 self.taken = 24;
-                self.is_big = is_big;
+                self.cursor = Cursor::Pcap { is_big };
                 self.is_live = true;
                 Ok(())
             }
@@ -133,7 +144,7 @@ impl Feed {
     {
         self.is_live = false;
         while self.taken < self.limit {
-            match next_record(&mut self.block, self.is_big, room) {
+            match self.cursor.next_piece(&mut self.block, room) {
                 Ok(got) => match got {
                     Some(piece) => {
                         self.taken += piece.size;
@@ -153,7 +164,8 @@ impl Feed {
     /// The next record, whose bytes are lent until the feed is used again; `None` where the input
     /// ended behind a whole record or the header.
     ///
-    /// `Cut`: the input ended within a record. `Damaged`: a captured length is above 262,144.
+    /// `Cut`: the input ended within a record or block. `Damaged`: a captured length is above 262,144,
+    /// or a block isn't sound.
     /// `TooLong`: what was taken makes the limit or more; where it does at the call, nothing is read.
     /// `Fault`: a read failed, and the bytes read so far hold no further whole record. `NotCapture`
     /// never comes.

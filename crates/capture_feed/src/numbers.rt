@@ -15,3 +15,15 @@ pub fn u32_at(bytes: &[u8], at: usize, is_big: bool) -> u32
         LittleEndian::read_u32(&bytes[at..at + 4])
     }
 }
+
+/// The number in the two bytes at this place.
+pub fn u16_at(bytes: &[u8], at: usize, is_big: bool) -> u16
+    requires { at + 2 ≤ length bytes.now }
+    ensures { result ≡ number_at is_big at 2 bytes.now }
+{
+    if is_big {
+        BigEndian::read_u16(&bytes[at..at + 2])
+    } else {
+        LittleEndian::read_u16(&bytes[at..at + 2])
+    }
+}

@@ -3,6 +3,7 @@ ghost use Rattle.std.specs.Prelude.{◌≡◌, ◌≢◌, ℕ, ◌+◌, ◌≤�
 ghost use Rattle.room_io.specs.Room.{IsReadyIn};
 ghost use Rattle.room_io.specs.declared.room.Slot.TheVariants.{Capture};
 ghost use Rattle.capture_feed.specs.Pcap.{captured, pcap_order};
+ghost use Rattle.capture_feed.specs.declared.cursor.Cursor.TheVariants.{Pcap};
 ghost use Rattle.capture_feed.specs.Reads.{OnlyReads};
 ghost use Rattle.capture_feed.specs.Pieces.{left_by, IsSound, Asks};
 
@@ -64,8 +65,8 @@ pub fn next_record<R: Room>(
     ensures reads { OnlyReads (R.state room.old) (R.state room.new) }
     ensures sound { IfOk result (λ got. IfSome got (λ piece. IsSound block.new piece)) }
     ensures kinds { IfErr result (λ stop. stop ≢ FeedStop.TooLong) }
-    ensures asks { (limit taken : ℕ) → taken < limit → Asks (left_by is_big block.old limit taken)
-        (λ size. left_by is_big block.new limit (taken + size))
+    ensures asks { (limit taken : ℕ) → taken < limit → Asks (left_by (Pcap is_big) block.old limit taken)
+        (λ size. left_by (Pcap is_big) block.new limit (taken + size))
         block.new (R.state room.old) (R.state room.new) result }
 {
     match block.fill(room, RECORD_HEAD) {
