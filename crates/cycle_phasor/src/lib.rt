@@ -15,12 +15,12 @@ ghost use Rattle.std.specs.Prelude.{◌≡◌, ◌<◌, ◌≤◌, ◌+◌, ◌^
 ghost use Rattle.std.specs.Option.{option_copied};
 ghost use Rattle.std.specs.Int.RustNames.{unsigned_abs};
 ghost use Rattle.relay_num.specs.Waves.{cosine, sine};
-ghost use Rattle.relay_num.specs.Bounds.{AllBelow};
+ghost use Rattle.relay_num.specs.Bounds.{AllBelow, sum_bound, value_bound};
 ghost use Rattle.lanes.specs.Lanes.{sums, multiples};
 ghost use Rattle.cycle_phasor.specs.Sliding.{values_left, slid, floored};
 
 use lanes::{difference8, multiple8, sum8};
-use relay_num::{Cx, floor_shift, wave};
+use relay_num::{Cx, PHASOR_BITS, floor_shift, wave};
 
 #[cfg(test)]
 mod tests;
@@ -55,7 +55,7 @@ fn values_or_zeros(values: Option<&[i64; 8]>) -> [i64; 8]
 fn moved(totals: &[i64; 8], step: &[i64; 8], weight: i64) -> [i64; 8]
     requires step { AllBelow step.now (2 ^ 29) }
     requires weight { unsigned_abs weight ≤ 16384 }
-    requires totals { AllBelow (sums totals.now (multiples step.now weight)) (2 ^ 49) }
+    requires totals { AllBelow (sums totals.now (multiples step.now weight)) sum_bound }
     ensures { result ≡ sums totals.now (multiples step.now weight) }
 {
     sum8(totals, &multiple8(step, weight))
@@ -86,10 +86,10 @@ impl Slider {
         requires count { self.old.count ≤ self.old.n }
         requires place { place < self.old.n }
         requires full { IsSome old ↔ (self.old.count ≡ self.old.n) }
-        requires new { AllBelow new.now (2 ^ 28) }
-        requires left { AllBelow (values_left (option_copied old)) (2 ^ 28) }
-        requires re { AllBelow (slid self.old.re (cosine self.old.n place) new.now (values_left (option_copied old))) (2 ^ 49) }
-        requires im { AllBelow (slid self.old.im (neg_ℤ (sine self.old.n place)) new.now (values_left (option_copied old))) (2 ^ 49) }
+        requires new { AllBelow new.now value_bound }
+        requires left { AllBelow (values_left (option_copied old)) value_bound }
+        requires re { AllBelow (slid self.old.re (cosine self.old.n place) new.now (values_left (option_copied old))) sum_bound }
+        requires im { AllBelow (slid self.old.im (neg_ℤ (sine self.old.n place)) new.now (values_left (option_copied old))) sum_bound }
         ensures n { self.new.n ≡ self.old.n }
         ensures count { self.new.count ≡ min (self.old.count + 1) self.old.n }
         ensures re { self.new.re ≡ slid self.old.re (cosine self.old.n place) new.now (values_left (option_copied old.entry)) }
@@ -117,8 +117,8 @@ impl Slider {
         let mut phasors = [Cx { re: 0, im: 0 }; 8];
         for k in 0..8 {
             phasors[k] = Cx {
-                re: floor_shift(self.re[k], 19),
-                im: floor_shift(self.im[k], 19),
+                re: floor_shift(self.re[k], PHASOR_BITS),
+                im: floor_shift(self.im[k], PHASOR_BITS),
             };
         }
         Some(phasors)

@@ -1,6 +1,6 @@
 //! Worked rows: waves at the table's own scale, the greatest sum, and a constant that starts within a cycle.
 ghost use Rattle.std.specs.Prelude.{◌≡◌, ◌+◌, ◌^◌, ◌<◌, ◌≤◌, ◌⊎◌, ℕ, IfOk};
-ghost use Rattle.relay_num.specs.Bounds.{AllBelow};
+ghost use Rattle.relay_num.specs.Bounds.{AllBelow, value_bound};
 ghost use Rattle.cycle_phasor.specs.Window.{IsSliding};
 
 use crate::{Slider, take_values};
@@ -29,7 +29,7 @@ enum Fed {
 
 /// The same value in each lane.
 fn values_of(what: Fed, number: u64) -> [i64; 8]
-    ensures { AllBelow result (2 ^ 28) }
+    ensures { AllBelow result value_bound }
 {
     let (cosine, sine) = wave(96, (number % 96) as u32);
     match what {

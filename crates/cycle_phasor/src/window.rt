@@ -1,7 +1,7 @@
 //! A window of samples whose numbers follow one another, in a ring, and the sums that slide along it.
 ghost use Rattle.std.specs.Prelude.{ℕ, ◌≡◌, ◌+◌, ◌≤◌, ◌^◌, ◌⊎◌, ◌==◌, ◌++◌, ◌∷◌, if◌then◌else◌, []};
 ghost use Rattle.circular_buffer.specs.Buffer.{keep_last};
-ghost use Rattle.relay_num.specs.Bounds.{AllBelow};
+ghost use Rattle.relay_num.specs.Bounds.{AllBelow, value_bound};
 ghost use Rattle.cycle_phasor.specs.Sliding.{values_left};
 ghost use Rattle.cycle_phasor.specs.Window.{IsSliding, window_with};
 
@@ -23,7 +23,7 @@ pub fn take_values<L: Ledger>(
 )
     requires n { (slider.old.n ≡ 80) ⊎ (slider.old.n ≡ 96) }
     requires state { IsSliding slider.old.n next ring.old slider.old }
-    requires small { AllBelow (values_left values) (2 ^ 28) }
+    requires small { AllBelow (values_left values) value_bound }
     ensures state { IsSliding slider.old.n (number + 1) ring.new slider.new }
     ensures items { ring.new.items ≡ window_with slider.old.n (number == next) values ring.old.items }
     ensures cost { steps.new ≤ steps.old + 1 }
@@ -46,7 +46,7 @@ fn slide<L: Ledger>(
 )
     requires n { (slider.old.n ≡ 80) ⊎ (slider.old.n ≡ 96) }
     requires state { IsSliding slider.old.n number ring.old slider.old }
-    requires values { AllBelow values.now (2 ^ 28) }
+    requires values { AllBelow values.now value_bound }
     ensures state { IsSliding slider.old.n (number + 1) ring.new slider.new }
     ensures items { ring.new.items ≡ keep_last slider.old.n (ring.old.items ++ values.now ∷ []) }
     ensures cost { steps.new ≡ steps.old + 1 }

@@ -6,9 +6,9 @@
 //! exact operations. `specs/Mimic.antt` has the formula for one channel.
 #![tactic(auto)]
 
-ghost use Rattle.std.specs.Prelude.{◌≡◌, ◌≤◌, ◌^◌};
+ghost use Rattle.std.specs.Prelude.{◌≡◌, ◌≤◌};
 ghost use Rattle.std.specs.Int.RustNames.{unsigned_abs};
-ghost use Rattle.relay_num.specs.Bounds.{AllBelow};
+ghost use Rattle.relay_num.specs.Bounds.{AllBelow, value_bound};
 ghost use Rattle.mimic_filter.specs.Mimic.{filtered_lanes};
 
 use lanes::{at_least8, at_most8, difference8, floor_shift8, multiple8};
@@ -26,8 +26,8 @@ const FACTOR_BITS: u32 = 10;
 pub fn mimic8(a: i64, b: i64, now: &[i64; 8], before: &[i64; 8]) -> [i64; 8]
     requires a { unsigned_abs a ≤ 65536 }
     requires b { unsigned_abs b ≤ 65536 }
-    requires now { AllBelow now.now (2 ^ 28) }
-    requires before { AllBelow before.now (2 ^ 28) }
+    requires now { AllBelow now.now value_bound }
+    requires before { AllBelow before.now value_bound }
     ensures { result ≡ filtered_lanes a b now.now before.now }
 {
     let step = difference8(&multiple8(now, a), &multiple8(before, b));
