@@ -64,8 +64,14 @@ def guess(data):
     return next((": it looks like " + text for magic, text in KINDS if data.startswith(magic)), "")
 
 
+ORDERS = {b"\x4d\x3c\x2b\x1a": "<", b"\x1a\x2b\x3c\x4d": ">"}      # by a section's byte-order magic
+
+
 def pcapng_records(data):
-    bodies, at, order, interfaces = [], 0, None, []
+    order = ORDERS.get(data[8:12])
+    if len(data) < 24 or order is None or struct.unpack_from(order + "H", data, 12)[0] != 1:
+        raise Unreadable("not a capture: " + ("a pcapng has 24 bytes at least" if len(data) < 24 else "a pcapng of another version"))
+    bodies, at, interfaces = [], 0, []
     while at < len(data):
         kind_bytes = data[at:at + 4]
         section = kind_bytes == b"\x0a\x0d\x0d\x0a"
@@ -73,9 +79,7 @@ def pcapng_records(data):
             return bodies, f"capture cut after {len(bodies)} records"
         before = order
         if section:
-            order = {b"\x4d\x3c\x2b\x1a": "<", b"\x1a\x2b\x3c\x4d": ">"}.get(data[at + 8:at + 12])
-        if order is None and at == 0:
-            raise Unreadable("not a capture: a pcapng whose byte order can't be told")
+            order = ORDERS.get(data[at + 8:at + 12])
         kind, total = struct.unpack_from((order or before) + "II", data, at)
         damaged = f"capture damaged after {len(bodies)} records length {total}"
         if order is None or total % 4 or not 12 <= total <= MOST_BLOCK:
@@ -88,8 +92,6 @@ def pcapng_records(data):
         at += total
         if section:
             if total < 28 or struct.unpack_from(order + "H", block, 12)[0] != 1:
-                if at == total:
-                    raise Unreadable("not a capture: a pcapng of another version than 1")
                 return bodies, damaged
             interfaces = []
         elif kind == 1:

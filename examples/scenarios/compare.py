@@ -4,13 +4,14 @@
     compare.py SEED COUNT [KEEP]
 
 Each case is a few lines of a network with random zones and tables, faults, swings, lost voltages and breaker openings, gaps,
-bad quality, repeated, swapped and broken frames, in either version of the settings and any kind of pcap. Both programs
+bad quality, repeated, swapped and broken frames, in either version of the settings, as pcap or pcapng. Both programs
 replay it; where log, GOOSE file or note differ, the case is kept in the folder KEEP (here by default) and the status is 1. Settings
 that the program refuses as not built are counted. Equal seeds make equal cases. With COUNT 0 and a seed such as 7/3 the one
 case 3 of seed 7 is made and compared.
 """
 import os
 import random
+import struct
 import subprocess
 import sys
 import tempfile
@@ -117,6 +118,26 @@ def broken(rng, body):
     return bytes(body)
 
 
+def pcapng(rng, frames):
+    """The frames in sections of either byte order, as enhanced and simple packets of an Ethernet interface, with packets of
+    another interface and other blocks between them."""
+    out, order, own = [], "<", 0
+    for k, (_, body) in enumerate(frames):
+        if k == 0 or rng.random() < 0.005:
+            order, own = rng.choice("<>"), rng.randrange(2)
+            out.append(sv.block(order, 0x0A0D0D0A, struct.pack(order + "IHHq", 0x1A2B3C4D, 1, 0, -1)))
+            out += [sv.block(order, 1, struct.pack(order + "HHI", 1 if n == own else 113, 0, 0)) for n in (0, 1)]
+        if rng.random() < 0.02:
+            out.append(sv.block(order, rng.choice((2, 4, 5, 0xBAD)), bytes(4 * rng.randrange(9))))
+        if rng.random() < 0.02:
+            out.append(sv.block(order, 6, struct.pack(order + "IIIII", 1 - own, 0, 0, len(body), len(body)) + body))
+        if own == 0 and rng.random() < 0.3:
+            out.append(sv.block(order, 3, struct.pack(order + "I", len(body)) + body))
+        else:
+            out.append(sv.block(order, 6, struct.pack(order + "IIIII", own, 0, 0, len(body), len(body)) + body))
+    return b"".join(out)
+
+
 def case(seed):
     """The settings' text and the capture's bytes of one case."""
     rng = random.Random(seed)
@@ -139,7 +160,8 @@ def case(seed):
             frames.insert(at + rng.randrange(1, 9), frames[at])
         else:
             frames[at:at + 2] = frames[at + 1], frames[at]
-    capture = pcap(frames, make.START, rate, rng.choice((sv.LITTLE_MICRO, sv.BIG_MICRO, sv.LITTLE_NANO, sv.BIG_NANO)))
+    magic = rng.choice((sv.LITTLE_MICRO, sv.BIG_MICRO, sv.LITTLE_NANO, sv.BIG_NANO, None))
+    capture = pcap(frames, make.START, rate, magic) if magic else pcapng(rng, frames)
     return text, capture[:-rng.randint(1, 90)] if rng.random() < 0.1 else capture
 
 
