@@ -1,4 +1,3 @@
-pub mod Bounds
 pub mod Taken
 pub mod Numbering
 pub mod Samples

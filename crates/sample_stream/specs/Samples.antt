@@ -1,17 +1,18 @@
 -- When a sample is good, and its values: the data set of a merging unit is IA, IB, IC, IN, UA, UB, UC, UN (IEC 61850-9-2).
-use Rattle.std.specs.Prelude.{ℕ, ◌==◌, nat_le, nat_lt, ◌^◌, Bool, ◌&&◌, true, false, if◌then◌else◌, List, [], ◌∷◌, ℤ, pos, replicate, slice_index_or}
+use Rattle.std.specs.Prelude.{ℕ, ◌==◌, nat_le, nat_lt, Bool, ◌&&◌, true, false, if◌then◌else◌, List, [], ◌∷◌, ℤ, pos, replicate, slice_index_or}
 use Rattle.std.specs.List.{list_all}
 use Rattle.std.specs.Int.Bits.{bit_and}
 use Rattle.std.specs.Int.RustNames.{unsigned_abs}
+use Rattle.relay_num.specs.Bounds.{value_bound}
 use Rattle.sv_frame.specs.declared.channel.Channel.{Channel}
 use Rattle.sample_stream.specs.declared.sample.Sample.{Sample}
 
 abbrev pub channel : ℕ → List Channel → Channel
 channel k channels = slice_index_or channels k (record { value = pos 0; quality = 0 })
 
--- the quality has no bit of the mask, and the value is from -(2 ^ 28 - 1) to 2 ^ 28 - 1
+-- the quality has no bit of the mask, and the value is below 2 ^ 28 in size
 abbrev pub is_fit : ℕ → Channel → Bool
-is_fit mask c = (bit_and c.quality mask == 0) && nat_lt (unsigned_abs c.value) (2 ^ 28)
+is_fit mask c = (bit_and c.quality mask == 0) && nat_lt (unsigned_abs c.value) value_bound
 
 -- the channels IA, IB, IC, UA, UB and UC are fit, and the clock is
 abbrev pub is_good : ℕ → ℕ → ℕ → List Channel → Bool

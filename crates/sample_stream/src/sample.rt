@@ -1,6 +1,6 @@
 //! A sample of the used channels.
-ghost use Rattle.std.specs.Prelude.{◌≡◌, ◌^◌};
-ghost use Rattle.sample_stream.specs.Bounds.{AllBelow};
+ghost use Rattle.std.specs.Prelude.{◌≡◌};
+ghost use Rattle.relay_num.specs.Bounds.{AllBelow, value_bound};
 ghost use Rattle.sample_stream.specs.Samples.{is_fit, is_good, used_values, sample_from};
 
 use sv_frame::Channel;
@@ -52,7 +52,7 @@ fn used_values(channels: &[Channel; 8]) -> [i64; 8]
 /// are 0.
 pub fn sample_of(channels: &[Channel; 8], mask: u32, synch: u8, synch_min: u8) -> Sample
     ensures sample { result ≡ sample_from mask synch_min synch channels.now }
-    ensures small { AllBelow result.values (2 ^ 28) }
+    ensures small { AllBelow result.values value_bound }
 {
     if !is_good(channels, mask, synch, synch_min) {
         return Sample {

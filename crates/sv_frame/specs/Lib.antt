@@ -4,5 +4,8 @@ pub mod Asdu
 pub mod Pdu
 pub mod Frame
 pub mod Grammar
+pub mod Gathering
+pub mod Enclosed
+pub mod Sequence
 pub mod Views
 pub mod Answer

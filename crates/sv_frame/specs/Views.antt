@@ -1,15 +1,19 @@
--- What is lent from a frame, as lists.
-use Rattle.std.specs.Prelude.{List, map}
-use Rattle.ber_fields.specs.Element.{Element, element}
-use Rattle.sv_frame.specs.declared.lent.Field.{Field}
+-- What is lent from a frame, as plain data.
+use Rattle.std.specs.Option.{option_map}
 use Rattle.sv_frame.specs.declared.lent.Parts.{Parts as Lent}
+use Rattle.sv_frame.specs.declared.fields.Fields.{Fields}
 use Rattle.sv_frame.specs.Pdu.{Parts}
+use Rattle.sv_frame.specs.Gathering.{Gathered}
 
-abbrev pub field_view : Field → Element
-field_view field = element field.tag field.contents.now
+abbrev pub plain_parts : Lent → Parts
+plain_parts parts = record { count = parts.count.now; sequence = parts.sequence.now }
 
-abbrev pub fields_view : List Field → List Element
-fields_view fields = map field_view fields
-
-abbrev pub parts_view : Lent → Parts
-parts_view parts = record { count = parts.count.now; sequence = parts.sequence.now }
+abbrev pub plain_fields : Fields → Gathered
+plain_fields fields = record {
+  low = fields.low;
+  sv_id = option_map (λ x. x.now) fields.sv_id;
+  counter = option_map (λ x. x.now) fields.counter;
+  conf_rev = option_map (λ x. x.now) fields.conf_rev;
+  synch = option_map (λ x. x.now) fields.synch;
+  samples = option_map (λ x. x.now) fields.samples;
+}

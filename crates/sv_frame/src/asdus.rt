@@ -1,79 +1,17 @@
-//! ASDUs out of the elements that hold them.
-ghost use Rattle.std.specs.Prelude.{◌≡◌, ◌+◌, ◌*◌, ◌≤◌, length, IfSome};
+//! ASDUs out of the bytes that hold them, each byte looked at once.
+ghost use Rattle.std.specs.Prelude.{◌≡◌, ◌+◌, ◌*◌, ◌≤◌, length, [], OnOk};
 ghost use Rattle.std.specs.Option.{option_map};
-ghost use Rattle.sv_frame.specs.Asdu.{plain_asdu, plain_asdus, known, is_rising, contents_of, sized, asdu_from, asdu_of, asdus_of};
-ghost use Rattle.sv_frame.specs.Views.{fields_view};
+ghost use Rattle.sv_frame.specs.Answer.{seen};
+ghost use Rattle.sv_frame.specs.Asdu.{plain_asdu, plain_asdus, asdu_of};
+ghost use Rattle.sv_frame.specs.Sequence.{asdus_in_sequence};
 
-use crate::fields::fields;
-use crate::lent::{Asdu, Field};
+use crate::Reason;
+use crate::fields::Fields;
+use crate::lent::Asdu;
 use arrayvec::ArrayVec;
-use byteorder::{BigEndian, ByteOrder};
+use ber_fields::head;
 use relay_num::Steps;
 use std::sync::ledger::Ledger;
-
-/// The contents of the first field of this tag.
-fn contents_of<'a>(tag: u8, fields: &[Field<'a>]) -> Option<&'a [u8]>
-    ensures small { IfSome result (λ x. length x.now ≤ 2048) }
-    ensures exact { option_map (λ x. x.now) result ≡ contents_of tag (fields_view fields.now) }
-{
-    for field in fields {
-        if field.tag == tag {
-            return Some(field.contents);
-        }
-    }
-    None
-}
-
-/// Contents of this tag that have this length.
-fn sized<'a>(size: usize, tag: u8, fields: &[Field<'a>]) -> Option<&'a [u8]>
-    ensures exact { option_map (λ x. x.now) result ≡ sized size tag (fields_view fields.now) }
-    ensures size { IfSome result (λ x. length x.now ≡ size) }
-{
-    let bytes = contents_of(tag, fields)?;
-    if bytes.len() == size {
-        Some(bytes)
-    } else {
-        None
-    }
-}
-
-/// Whether the tags that an ASDU knows rise, so that each comes once at most.
-fn is_rising(fields: &[Field]) -> bool
-    ensures { result ≡ is_rising 0x80 (known (fields_view fields.now)) }
-{
-    let mut low: u8 = 0x80;
-    for field in fields {
-        if field.tag <= 0x89 {
-            if field.tag < low {
-                return false;
-            }
-            low = field.tag + 1;
-        }
-    }
-    true
-}
-
-/// What the fields say, where the required ones are there.
-#[tactic(auto, unfolding(crate::specs::Asdu::asdu_from))]
-fn asdu_from<'a>(fields: &[Field<'a>]) -> Option<Asdu<'a>>
-    ensures { option_map plain_asdu result ≡ asdu_from (fields_view fields.now) }
-{
-    if !is_rising(fields) {
-        return None;
-    }
-    let sv_id = contents_of(0x80, fields)?;
-    let counter = sized(2, 0x82, fields)?;
-    let conf_rev = sized(4, 0x83, fields)?;
-    let synch = sized(1, 0x85, fields)?;
-    let samples = contents_of(0x87, fields)?;
-    Some(Asdu {
-        sv_id,
-        counter: BigEndian::read_u16(counter),
-        conf_rev: BigEndian::read_u32(conf_rev),
-        synch: synch[0],
-        samples,
-    })
-}
 
 /// The ASDU whose fields, sixteen at most, fill the bytes.
 fn asdu_of<'a, L: Ledger>(text: &'a [u8], steps: &mut Steps<L>) -> Option<Asdu<'a>>
@@ -81,23 +19,60 @@ fn asdu_of<'a, L: Ledger>(text: &'a [u8], steps: &mut Steps<L>) -> Option<Asdu<'
     ensures exact { option_map plain_asdu result ≡ asdu_of text.now }
     ensures cost { steps.new ≤ steps.old + 16 }
 {
-    let fields = fields(text, 16, steps)?;
-    asdu_from(&fields)
+    let mut fields = Fields::none();
+    let mut at = 0;
+    let mut left: usize = 16;
+    while at < text.len() {
+        if left == 0 {
+            return None;
+        }
+        let Ok(field) = head(text, at, steps) else {
+            return None;
+        };
+        if !fields.add(field.tag, &text[field.start..field.end]) {
+            return None;
+        }
+        at = field.end;
+        left -= 1;
+    }
+    fields.asdu()
 }
 
-/// The ASDUs of all these elements.
+/// The sample sets of a sequence of exactly `count` elements of ASDUs, or the layer that fails. What
+/// `found` holds after an `Err` isn't to be used.
 pub(crate) fn asdus_of<'a, L: Ledger>(
-    texts: &[Field<'a>],
+    count: usize,
+    bytes: &'a [u8],
     steps: &mut Steps<L>,
-) -> Option<ArrayVec<Asdu<'a>, 16>>
-    requires { length texts.now ≤ 16 }
-    ensures exact { option_map (λ found. plain_asdus found.items) result ≡ asdus_of (fields_view texts.now) }
-    ensures cost { steps.new ≤ steps.old + 16 * length texts.now }
-    ensures count { IfSome result (λ found. length found.items ≡ length texts.now) }
+    found: &mut ArrayVec<Asdu<'a>, 16>,
+) -> Result<(), Reason>
+    requires count { count ≤ 16 }
+    requires small { length bytes.now ≤ 2048 }
+    requires empty { found.old.items ≡ [] }
+    ensures exact { seen (λ _. plain_asdus found.new.items) result ≡ asdus_in_sequence count bytes.now }
+    ensures cost { steps.new ≤ steps.old + 17 * count }
+    ensures count { OnOk result (length found.new.items ≡ count) }
 {
-    let mut found = ArrayVec::new();
-    for text in texts {
-        found.push(asdu_of(text.contents, steps)?);
+    let mut at = 0;
+    let mut whole = true;
+    let mut left = count;
+    while left > 0 {
+        let Ok(text) = head(bytes, at, steps) else {
+            return Err(Reason::Count);
+        };
+        if text.tag != 0x30 {
+            return Err(Reason::Count);
+        }
+        at = text.end;
+        left -= 1;
+        match asdu_of(&bytes[text.start..text.end], steps) {
+            Some(asdu) => found.push(asdu),
+            // The count comes first, so the elements behind are still counted.
+            None => whole = false,
+        }
     }
-    Some(found)
+    if at < bytes.len() {
+        return Err(Reason::Count);
+    }
+    if whole { Ok(()) } else { Err(Reason::Asdu) }
 }

@@ -1,14 +1,16 @@
 //! The frame: what stands in front of the APDU, and the layers one after the other.
-ghost use Rattle.std.specs.Prelude.{◌≡◌, ◌+◌, ◌*◌, ◌≤◌, length, min, IfSome, IfOk};
+ghost use Rattle.std.specs.Prelude.{◌≡◌, ◌+◌, ◌*◌, ◌<◌, ◌≤◌, length, min, [], IfSome, IfOk, OnOk};
 ghost use Rattle.std.specs.Option.{option_map};
 ghost use Rattle.sv_frame.specs.Asdu.{plain_asdus};
 ghost use Rattle.sv_frame.specs.Frame.{begins, untagged, payload_of, apdu_of, asdus_in};
+ghost use Rattle.sv_frame.specs.Sequence.{asdus_in_parts};
+ghost use Rattle.sv_frame.specs.Views.{plain_parts};
 ghost use Rattle.sv_frame.specs.Answer.{seen};
 
 use crate::Reason;
 use crate::asdus::asdus_of;
-use crate::lent::Asdu;
-use crate::pdu::{pdu_of, texts_of};
+use crate::lent::{Asdu, Parts};
+use crate::pdu::pdu_of;
 use arrayvec::ArrayVec;
 use byteorder::{BigEndian, ByteOrder};
 use relay_num::Steps;
@@ -73,28 +75,43 @@ fn apdu_of<'a>(before: usize, payload: &'a [u8], captured: u32) -> Result<&'a [u
     Ok(&payload[8..counted])
 }
 
-/// The sample sets, or the first layer that fails.
+/// The sample sets of as many elements as the count says, from one to sixteen.
+fn asdus_in_parts<'a, L: Ledger>(
+    parts: Parts<'a>,
+    steps: &mut Steps<L>,
+    found: &mut ArrayVec<Asdu<'a>, 16>,
+) -> Result<(), Reason>
+    requires size { (0 < length parts.count.now) × (length parts.count.now ≤ 4) }
+    requires empty { found.old.items ≡ [] }
+    ensures exact { seen (λ _. plain_asdus found.new.items) result ≡ asdus_in_parts (plain_parts parts.entry) }
+    ensures cost { steps.new ≤ steps.old + 17 * 16 }
+    ensures each { OnOk result (steps.new ≤ steps.old + 17 * length found.new.items) }
+{
+    let count = BigEndian::read_uint(parts.count, parts.count.len());
+    if count == 0 || count > 16 {
+        return Err(Reason::Count);
+    }
+    asdus_of(count as usize, parts.sequence, steps, found)
+}
+
+/// The sample sets, or the first layer that fails. What `found` holds after an `Err` isn't to be used.
 #[tactic(auto, unfolding(crate::specs::Frame::asdus_in))]
 pub(crate) fn asdus_in<'a, L: Ledger>(
     before: usize,
     payload: &'a [u8],
     captured: u32,
     steps: &mut Steps<L>,
-) -> Result<ArrayVec<Asdu<'a>, 16>, Reason>
-    requires { before + length payload.now ≡ min captured 2048 }
-    ensures exact { seen (λ found. plain_asdus found.items) result ≡ asdus_in before captured payload.now }
+    found: &mut ArrayVec<Asdu<'a>, 16>,
+) -> Result<(), Reason>
+    requires size { before + length payload.now ≡ min captured 2048 }
+    requires empty { found.old.items ≡ [] }
+    ensures exact { seen (λ _. plain_asdus found.new.items) result ≡ asdus_in before captured payload.now }
     ensures cost { steps.new ≤ steps.old + 4 + 17 * 16 }
-    ensures each { IfOk result (λ found. steps.new ≤ steps.old + 4 + 17 * length found.items) }
+    ensures each { OnOk result (steps.new ≤ steps.old + 4 + 17 * length found.new.items) }
 {
     let apdu = apdu_of(before, payload, captured)?;
     let Some(parts) = pdu_of(apdu, steps) else {
         return Err(Reason::Pdu);
     };
-    let Some(texts) = texts_of(parts, steps) else {
-        return Err(Reason::Count);
-    };
-    let Some(found) = asdus_of(&texts, steps) else {
-        return Err(Reason::Asdu);
-    };
-    Ok(found)
+    asdus_in_parts(parts, steps, found)
 }

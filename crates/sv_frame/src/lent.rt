@@ -57,23 +57,6 @@ impl Default for Asdu<'_> {
     }
 }
 
-/// An element: its tag, and its contents where they lie in the frame.
-#[derive(Clone, Copy)]
-pub struct Field<'a> {
-    pub tag: u8,
-    pub contents: &'a [u8],
-    pub ghost small: { length contents.now ≤ 2048 },
-}
-
-impl Default for Field<'_> {
-    fn default() -> Self {
-        Field {
-            tag: 0,
-            contents: &[],
-        }
-    }
-}
-
 /// The number of the ASDUs as it is spelled, and the bytes that hold them.
 #[derive(Clone, Copy)]
 pub struct Parts<'a> {

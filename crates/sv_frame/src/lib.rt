@@ -71,8 +71,10 @@ pub fn read<'a, L: Ledger>(frame: &'a [u8], captured: u32, steps: &mut Steps<L>)
     let Some(payload) = payload_of(frame) else {
         return SvRead::Other;
     };
-    match asdus_in(frame.len() - payload.len(), payload, captured, steps) {
-        Ok(found) => SvRead::Pdu(found),
+    let before = frame.len() - payload.len();
+    let mut found = ArrayVec::new();
+    match asdus_in(before, payload, captured, steps, &mut found) {
+        Ok(()) => SvRead::Pdu(found),
         Err(reason) => SvRead::Bad(reason),
     }
 }
