@@ -3,13 +3,7 @@ ghost use Rattle.std.specs.Prelude.{◌≡◌, ◌<◌, ◌≤◌, ◌++◌, ◌
 ghost use Rattle.ber_fields.specs.Written.{Fits, head_text, field, signed_size, shortest, truth};
 
 use arrayvec::ArrayVec;
-
-fn put_bytes(out: &mut ArrayVec<u8, 1024>, bytes: &[u8])
-    requires { Fits out.old.items bytes.now }
-    ensures { out.new.items ≡ out.old.items ++ bytes.now }
-{
-    let _ = out.try_extend_from_slice(bytes);
-}
+use relay_num::put_bytes;
 
 /// Appends the tag and the length, in the shortest definite form. The length is at most 65535, and
 /// the two to four bytes must fit.
@@ -30,6 +24,7 @@ pub fn put_head(out: &mut ArrayVec<u8, 1024>, tag: u8, length: usize)
     }
 }
 
+/// Appends an element. It must fit.
 fn put_field(out: &mut ArrayVec<u8, 1024>, tag: u8, contents: &[u8])
     requires length { length contents.now < 65536 }
     requires room { Fits out.old.items (field tag contents.now) }
@@ -39,6 +34,7 @@ fn put_field(out: &mut ArrayVec<u8, 1024>, tag: u8, contents: &[u8])
     put_bytes(out, contents);
 }
 
+/// How many bytes the shortest two's complement of a number has, from one to five.
 fn signed_size(value: u32) -> usize
     ensures { result ≡ signed_size value }
 {

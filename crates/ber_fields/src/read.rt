@@ -7,7 +7,7 @@ use byteorder::{BigEndian, ByteOrder};
 use relay_num::Steps;
 use std::sync::ledger::Ledger;
 
-/// Where an element lies in its bytes: its tag, and its contents from `start` up to `end`.
+/// Where an element lies in its bytes: its tag, and its contents from the byte `start` up to, and without, `end`.
 #[derive(Clone, Copy, Debug, Default, PartialEq, Eq)]
 pub struct BerHead {
     pub tag: u8,
@@ -37,6 +37,7 @@ fn length_of(bytes: &[u8]) -> Option<(usize, usize)>
     Some((first - 127, number as usize))
 }
 
+/// The head of the element that begins at the byte `at`, by the reading alone.
 #[tactic(auto, unfolding(crate::specs::Element::element_at))]
 fn head_at<L: Ledger>(bytes: &[u8], at: usize, steps: &mut Steps<L>) -> Result<BerHead, BadHead>
     requires { at ≤ length bytes.now }

@@ -1,18 +1,9 @@
-//! Texts and digits at the end of a line.
+//! Digits at the end of a log line.
 ghost use Rattle.std.specs.Prelude.{◌≡◌, ◌≤◌, ◌+◌, ◌++◌, length, decimal};
 ghost use Rattle.event_record.specs.Time.{fixed};
 
 use arrayvec::ArrayVec;
 use relay_num::put_decimal;
-
-/// Appends a text.
-pub(crate) fn put(out: &mut ArrayVec<u8, 160>, text: &[u8])
-    requires { length out.old.items + length text.now ≤ 160 }
-    ensures bytes { out.new.items ≡ out.old.items ++ text.now }
-    ensures long { length out.new.items ≡ length out.old.items + length text.now }
-{
-    let _ = out.try_extend_from_slice(text);
-}
 
 /// Appends the decimal digits of a value, for a caller that keeps room for any.
 pub(crate) fn put_number(out: &mut ArrayVec<u8, 160>, value: u64)

@@ -3,11 +3,11 @@ ghost use Rattle.std.specs.Prelude.{◌≡◌, ◌≤◌, ◌<◌, ◌+◌, ◌^
 ghost use Rattle.event_record.specs.Printable.{IsPrintableAt, IsPrintable};
 ghost use Rattle.event_record.specs.Line.{place_text, loop_text, reason_text, zone_text, words_text, at_text, line_text};
 
-use crate::digits::{put, put_number};
+use crate::digits::put_number;
 use crate::event::{Event, What};
 use crate::time::{At, put_time};
 use arrayvec::ArrayVec;
-use relay_num::put_decimal;
+use relay_num::{put_bytes, put_decimal};
 use sv_frame::Reason;
 
 /// The log line of an event of the line with this name, with its newline.
@@ -21,8 +21,8 @@ pub fn print(name: &[u8], event: &Event) -> ArrayVec<u8, 160>
     match *event {
         Event::Malformed { frame, reason } => {
             put_counted(&mut out, b"frame ", frame);
-            put(&mut out, b" malformed ");
-            put(&mut out, reason_word(reason));
+            put_bytes(&mut out, b" malformed ");
+            put_bytes(&mut out, reason_word(reason));
         }
         Event::Line { at, what } => {
             put_at(&mut out, name, at);
@@ -41,7 +41,7 @@ pub fn put_place(out: &mut ArrayVec<u8, 160>, name: &[u8], at: &At)
     requires room { length out.old.items + length (place_text name.now at.now) ≤ 160 }
     ensures { out.new.items ≡ out.old.items ++ place_text name.now at.now }
 {
-    put(out, name);
+    put_bytes(out, name);
     out.push(b' ');
     put_time(out, at.seconds, at.nanos);
     out.push(b' ');
@@ -60,31 +60,32 @@ fn put_at(out: &mut ArrayVec<u8, 160>, name: &[u8], at: Option<At>)
     match at {
         Some(at) => put_place(out, name, &at),
         None => {
-            put(out, name);
-            put(out, b" - - ");
+            put_bytes(out, name);
+            put_bytes(out, b" - - ");
         }
     }
 }
 
+/// Appends what happened, in words, as the log has them.
 fn put_words(out: &mut ArrayVec<u8, 160>, what: &What)
     requires { length out.old.items ≤ 90 }
     ensures bytes { out.new.items ≡ out.old.items ++ words_text what.now }
     ensures long { length out.new.items ≤ length out.old.items + 60 }
 {
     match *what {
-        What::First => put(out, b"first"),
+        What::First => put_bytes(out, b"first"),
         What::Jump { missing } => put_counted(out, b"jump ", u64::from(missing)),
-        What::Ready => put(out, b"ready"),
-        What::Lost => put(out, b"lost"),
-        What::SwingOn => put(out, b"swing on"),
-        What::SwingOff => put(out, b"swing off"),
-        What::FuseOn => put(out, b"fuse on"),
-        What::FuseOff => put(out, b"fuse off"),
+        What::Ready => put_bytes(out, b"ready"),
+        What::Lost => put_bytes(out, b"lost"),
+        What::SwingOn => put_bytes(out, b"swing on"),
+        What::SwingOff => put_bytes(out, b"swing off"),
+        What::FuseOn => put_bytes(out, b"fuse on"),
+        What::FuseOff => put_bytes(out, b"fuse off"),
         What::Entered { zone, lp } => put_zone(out, zone, lp, b" in"),
         What::Left { zone, lp } => put_zone(out, zone, lp, b" out"),
         What::Operate { zone, lp } => put_zone(out, zone, lp, b" operate"),
-        What::Trip => put(out, b"trip"),
-        What::Reset => put(out, b"reset"),
+        What::Trip => put_bytes(out, b"trip"),
+        What::Reset => put_bytes(out, b"reset"),
         What::ConfRev { got } => put_counted(out, b"confrev ", u64::from(got)),
         What::Length { got } => put_counted(out, b"length ", u64::from(got)),
         What::Wild { counter } => put_counted(out, b"wild ", u64::from(counter)),
@@ -103,7 +104,7 @@ fn put_counted(out: &mut ArrayVec<u8, 160>, word: &[u8], value: u64)
     ensures bytes { out.new.items ≡ out.old.items ++ word.now ++ decimal value }
     ensures long { length out.new.items ≤ length out.old.items + length word.now + 20 }
 {
-    put(out, word);
+    put_bytes(out, word);
     put_number(out, value);
 }
 
@@ -116,10 +117,11 @@ fn put_zone(out: &mut ArrayVec<u8, 160>, zone: u8, lp: u8, did: &[u8])
 {
     put_counted(out, b"zone ", u64::from(zone));
     out.push(b' ');
-    put(out, loop_name(lp));
-    put(out, did);
+    put_bytes(out, loop_name(lp));
+    put_bytes(out, did);
 }
 
+/// The name of a loop.
 fn loop_name(lp: u8) -> &'static [u8]
     ensures text { result.now ≡ loop_text lp }
     ensures long { length result.now ≡ 2 }
@@ -134,6 +136,7 @@ fn loop_name(lp: u8) -> &'static [u8]
     }
 }
 
+/// The word for why a frame isn't read.
 fn reason_word(reason: Reason) -> &'static [u8]
     ensures text { result.now ≡ reason_text reason }
     ensures long { length result.now ≤ 6 }

@@ -10,15 +10,19 @@ use jiff::civil::{Date, date};
 use jiff::tz::Offset;
 use relay_settings::Common;
 
-/// The moment of a sample: its number, its second since 1970 and the nanosecond in it.
+/// The moment of a sample.
 #[derive(Clone, Copy, PartialEq, Eq, Debug)]
 pub struct At {
+    /// The sample's number, in samples since the settings' start.
     pub number: u64,
+    /// Its second since 1970 (UTC, without leap seconds), modulo 2^32.
     pub seconds: u32,
+    /// The nanosecond in it, rounded down.
     pub nanos: u32,
 }
 
-/// The moment of the sample with this number.
+/// The moment of the sample with this number: `number` samples after the settings' start, at their rate in
+/// samples a second.
 pub fn at_of(common: &Common, number: u64) -> At
     requires { 1 < common.now.rate }
     ensures time { result ≡ time_of common.now number }
@@ -73,6 +77,7 @@ fn date_of(day: u32) -> Date
     }
 }
 
+/// Appends a civil date, as `2024-02-29`.
 fn put_date(out: &mut ArrayVec<u8, 160>, year: u32, month: u32, day: u32)
     requires { length out.old.items + 10 ≤ 160 }
     ensures bytes { out.new.items ≡ out.old.items ++ date_text year month day }

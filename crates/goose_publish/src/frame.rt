@@ -4,8 +4,9 @@ ghost use Rattle.relay_settings.specs.Settings.{plain_goose};
 ghost use Rattle.goose_publish.specs.Frame.{time_bytes, values_bytes, fields_bytes, frame_bytes};
 
 use crate::points::{Points, Send};
-use crate::put::{boolean, bytes, head, number, quality, text, word};
+use crate::put::{boolean, head, number, quality, text, word};
 use arrayvec::ArrayVec;
+use relay_num::put_bytes;
 use relay_settings::{Common, GooseSettings};
 
 /// The second and the fraction of a second at which a sample lies, and the time's quality: ten bits of the
@@ -63,7 +64,7 @@ fn fields(common: &Common, goose: &GooseSettings, send: &Send) -> ArrayVec<u8, 1
     number(&mut out, 0x8A, 9);
     let values = values(&send.points);
     head(&mut out, 0xAB, values.len());
-    bytes(&mut out, values.as_slice());
+    put_bytes(&mut out, values.as_slice());
     out
 }
 
@@ -81,10 +82,10 @@ pub fn frame_bytes(common: &Common, goose: &GooseSettings, send: &Send) -> Array
     let fields = fields(common, goose, send);
     let mut pdu = ArrayVec::new();
     head(&mut pdu, 0x61, fields.len());
-    bytes(&mut pdu, fields.as_slice());
+    put_bytes(&mut pdu, fields.as_slice());
     let mut out = ArrayVec::new();
-    bytes(&mut out, &goose.dst);
-    bytes(&mut out, &goose.src);
+    put_bytes(&mut out, &goose.dst);
+    put_bytes(&mut out, &goose.src);
     word(&mut out, 0x8100);
     let priority = u16::from(goose.vlan_priority);
     word(&mut out, priority * 8192 + goose.vlan_id);
@@ -93,6 +94,6 @@ pub fn frame_bytes(common: &Common, goose: &GooseSettings, send: &Send) -> Array
     word(&mut out, (pdu.len() + 8) as u16);
     word(&mut out, 0);
     word(&mut out, 0);
-    bytes(&mut out, pdu.as_slice());
+    put_bytes(&mut out, pdu.as_slice());
     out
 }

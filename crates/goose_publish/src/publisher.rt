@@ -38,7 +38,7 @@ impl Publisher {
     {
         Publisher {
             common: *common,
-            goose: copy_of(goose),
+            goose: goose.copy(),
             schedule: Schedule::new(common),
         }
     }
@@ -77,29 +77,5 @@ impl Publisher {
         ensures long { length result.items ≤ 640 }
     {
         frame_bytes(&self.common, &self.goose, send)
-    }
-}
-
-fn copy_of_text(text: &ArrayVec<u8, 129>) -> ArrayVec<u8, 129>
-    ensures { result ≡ text.now }
-{
-    let mut copy = ArrayVec::new();
-    let _ = copy.try_extend_from_slice(text.as_slice());
-    copy
-}
-
-fn copy_of(goose: &GooseSettings) -> GooseSettings
-    ensures { result ≡ goose.now }
-{
-    GooseSettings {
-        dst: goose.dst,
-        src: goose.src,
-        appid: goose.appid,
-        vlan_priority: goose.vlan_priority,
-        vlan_id: goose.vlan_id,
-        gocb_ref: copy_of_text(&goose.gocb_ref),
-        dat_set: copy_of_text(&goose.dat_set),
-        go_id: copy_of_text(&goose.go_id),
-        conf_rev: goose.conf_rev,
     }
 }

@@ -6,14 +6,7 @@ ghost use Rattle.goose_publish.specs.Frame.{quality_field};
 
 use arrayvec::ArrayVec;
 use ber_fields::{put_bits, put_bool, put_head, put_text, put_unsigned};
-
-pub fn bytes(out: &mut ArrayVec<u8, 1024>, bytes: &[u8])
-    requires { length out.old.items + length bytes.now ≤ 1024 }
-    ensures bytes { out.new.items ≡ out.old.items ++ bytes.now }
-    ensures long { length out.new.items ≡ length out.old.items + length bytes.now }
-{
-    let _ = out.try_extend_from_slice(bytes);
-}
+use relay_num::put_bytes;
 
 /// Two bytes, the highest first.
 pub fn word(out: &mut ArrayVec<u8, 1024>, word: u16)
@@ -21,9 +14,10 @@ pub fn word(out: &mut ArrayVec<u8, 1024>, word: u16)
     ensures bytes { out.new.items ≡ out.old.items ++ big_bytes 2 word }
     ensures long { length out.new.items ≡ length out.old.items + 2 }
 {
-    bytes(out, &word.to_be_bytes());
+    put_bytes(out, &word.to_be_bytes());
 }
 
+/// A tag and a length in bytes.
 pub fn head(out: &mut ArrayVec<u8, 1024>, tag: u8, size: usize)
     requires size { size < 65536 }
     requires room { length out.old.items + 4 ≤ 1024 }
@@ -33,6 +27,7 @@ pub fn head(out: &mut ArrayVec<u8, 1024>, tag: u8, size: usize)
     put_head(out, tag, size);
 }
 
+/// A text of at most 129 bytes.
 pub fn text(out: &mut ArrayVec<u8, 1024>, tag: u8, text: &[u8])
     requires text { length text.now ≤ 129 }
     requires room { length out.old.items + length text.now + 4 ≤ 1024 }
@@ -42,6 +37,7 @@ pub fn text(out: &mut ArrayVec<u8, 1024>, tag: u8, text: &[u8])
     put_text(out, tag, text);
 }
 
+/// A number in its shortest two's complement.
 pub fn number(out: &mut ArrayVec<u8, 1024>, tag: u8, value: u32)
     requires { length out.old.items + 9 ≤ 1024 }
     ensures bytes { out.new.items ≡ out.old.items ++ field tag (shortest value) }
@@ -50,6 +46,7 @@ pub fn number(out: &mut ArrayVec<u8, 1024>, tag: u8, value: u32)
     put_unsigned(out, tag, value);
 }
 
+/// A truth value.
 pub fn boolean(out: &mut ArrayVec<u8, 1024>, tag: u8, value: bool)
     requires { length out.old.items + 3 ≤ 1024 }
     ensures bytes { out.new.items ≡ out.old.items ++ field tag (truth value) }
@@ -58,7 +55,7 @@ pub fn boolean(out: &mut ArrayVec<u8, 1024>, tag: u8, value: bool)
     put_bool(out, tag, value);
 }
 
-/// The quality of a value, which is good or invalid.
+/// The quality of a value, which is good or invalid (IEC 61850-7-3, with its 13 bits).
 pub fn quality(out: &mut ArrayVec<u8, 1024>, is_good: bool)
     requires { length out.old.items + 5 ≤ 1024 }
     ensures bytes { out.new.items ≡ out.old.items ++ quality_field is_good }

@@ -1,5 +1,5 @@
 -- The ASDUs of a sequence, read one after the other.
-use Rattle.std.proofs.Common.{◌≡◌, ◌≢◌, ℕ, suc, ◌<◌, Bool, true, false, cond, List, [], ◌∷◌, ◌++◌, length, Option, Some, None, refl, ap, append_assoc, arith}
+use Rattle.std.proofs.Common.{◌≡◌, ◌≢◌, ℕ, suc, ◌<◌, Bool, true, false, cond, List, [], ◌∷◌, ◌++◌, length, Option, Some, None, refl, sym, ap, ◌∙◌, append_assoc, arith}
 use Rattle.std.specs.Prelude.{◌==◌, ◌&&◌, Result, Err}
 use Rattle.std.specs.List.{list_all}
 use Rattle.std.proofs.lemmas.List.{append-nil}
@@ -16,7 +16,7 @@ use Rattle.sv_frame.specs.Sequence.{asdus_in_sequence}
 use Rattle.sv_frame.proofs.ElementLemmas.{next, stops, full, empty, holds}
 
 -- the ASDUs so far and one more, unless one of them isn't one
-abbrev pub and_one : Option (List PlainAsdu) → Option PlainAsdu → Option (List PlainAsdu)
+abbrev and_one : Option (List PlainAsdu) → Option PlainAsdu → Option (List PlainAsdu)
 and_one before one = before >>= λ xs. one >>= λ x. Some (xs ++ x ∷ [])
 
 abbrev and_all : Option (List PlainAsdu) → Option (List PlainAsdu) → Option (List PlainAsdu)
@@ -63,7 +63,7 @@ one_more : (left : ℕ) (before : Option (List PlainAsdu)) (e : Element) (read :
 one_more left before e None is = refl
 one_more left before e (Some es) is = rw (eqb-suc-suc (length es) left, eq-eqb e.tag 0x30 is) (in_order (length es == left && list_all (λ e. e.tag == 0x30) es) before e es)
 
-pub goes_on : (left fewer : ℕ) (bytes : List ℕ) (e : Element) (rest : List ℕ) (before : Option (List PlainAsdu)) → left ≡ suc fewer → element_at bytes ≡ Some (e, rest) → e.tag ≡ 0x30
+goes_on : (left fewer : ℕ) (bytes : List ℕ) (e : Element) (rest : List ℕ) (before : Option (List PlainAsdu)) → left ≡ suc fewer → element_at bytes ≡ Some (e, rest) → e.tag ≡ 0x30
     → said_of left bytes before ≡ said_of fewer rest (and_one before (asdu_of e.contents))
 goes_on left fewer bytes e rest before k h is = rw (k, next fewer bytes e rest (holds bytes e rest h) h) (one_more fewer before e (elements fewer rest) is)
 
@@ -105,10 +105,22 @@ ends left bytes before k none = rw (k, none, empty 0) (ap (or_bad reasons.Asdu) 
 abbrev pub so_far : Bool → List PlainAsdu → Option (List PlainAsdu)
 so_far whole xs = cond whole (Some xs) None
 
-pub with_good : (whole : Bool) (xs : List PlainAsdu) (x : PlainAsdu) (one : Option PlainAsdu) → Some x ≡ one → and_one (so_far whole xs) one ≡ so_far whole (xs ++ x ∷ [])
+with_good : (whole : Bool) (xs : List PlainAsdu) (x : PlainAsdu) (one : Option PlainAsdu) → Some x ≡ one → and_one (so_far whole xs) one ≡ so_far whole (xs ++ x ∷ [])
 with_good true xs x one h = rw (← h) refl
 with_good false xs x one h = refl
 
-pub with_bad : (whole : Bool) (xs : List PlainAsdu) (one : Option PlainAsdu) → None ≡ one → and_one (so_far whole xs) one ≡ None
+with_bad : (whole : Bool) (xs : List PlainAsdu) (one : Option PlainAsdu) → None ≡ one → and_one (so_far whole xs) one ≡ None
 with_bad true xs one h = rw (← h) refl
 with_bad false xs one h = refl
+
+-- one element further, whose ASDU is one
+pub goes_good : (left fewer : ℕ) (bytes : List ℕ) (e : Element) (rest : List ℕ) (whole : Bool) (xs : List PlainAsdu) (x : PlainAsdu) (total : Result (List PlainAsdu) Reason) → left ≡ suc fewer → element_at bytes ≡ Some (e, rest) → e.tag ≡ 0x30
+    → Some x ≡ asdu_of e.contents → said_of left bytes (so_far whole xs) ≡ total → said_of fewer rest (so_far whole (xs ++ x ∷ [])) ≡ total
+goes_good left fewer bytes e rest whole xs x total k h is one so_said =
+    ap (said_of fewer rest) (sym (with_good whole xs x (asdu_of e.contents) one)) ∙ sym (goes_on left fewer bytes e rest (so_far whole xs) k h is) ∙ so_said
+
+-- one element further, whose ASDU isn't one
+pub goes_bad : (left fewer : ℕ) (bytes : List ℕ) (e : Element) (rest : List ℕ) (whole : Bool) (xs : List PlainAsdu) (total : Result (List PlainAsdu) Reason) → left ≡ suc fewer → element_at bytes ≡ Some (e, rest) → e.tag ≡ 0x30
+    → None ≡ asdu_of e.contents → said_of left bytes (so_far whole xs) ≡ total → said_of fewer rest None ≡ total
+goes_bad left fewer bytes e rest whole xs total k h is one so_said =
+    ap (said_of fewer rest) (sym (with_bad whole xs (asdu_of e.contents) one)) ∙ sym (goes_on left fewer bytes e rest (so_far whole xs) k h is) ∙ so_said

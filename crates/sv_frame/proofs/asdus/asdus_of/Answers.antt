@@ -1,7 +1,7 @@
 use Rattle.std.proofs.Common.{◌≡◌, ◌+◌, ◌-◌, ◌<◌, suc, length, drop, sym, ◌∙◌, arith}
 use Rattle.std.proofs.lemmas.List.{drop_all, length-drop, map_push}
 use Rattle.sv_frame.specs.Asdu.{plain_asdu, plain_asdus}
-use Rattle.sv_frame.proofs.SequenceLemmas.{so_far, goes_on, other_tag, breaks, passes, ends, with_good, with_bad}
+use Rattle.sv_frame.proofs.SequenceLemmas.{other_tag, goes_good, goes_bad, breaks, passes, ends}
 use Rattle.sv_frame.proofs.asdus.asdus_of.Goals as goal
 
 pub returns-in_default-clause-exact : goal.returns-in_default-clause-exact
@@ -17,11 +17,9 @@ returns-then-text-ne48-clause-exact g c =
 pub loop-left-preserved-in-Some : goal.loop-left-preserved-in-Some
 loop-left-preserved-in-Some g c =
     let fewer : c.loop-left.left ≡ suc (c.loop-left.left - 1) = omega arith in
-    let on = goes_on _ _ (drop c.loop-left.at c.args.bytes.now) _ _ (so_far c.loop-left.whole (plain_asdus c.loop-left.found.items)) fewer c.in-Ok.ensures.exact c.if-text-ne48.false in
-    let one = with_good c.loop-left.whole (plain_asdus c.loop-left.found.items) (plain_asdu c.in-Some.asdu) _ c.in-Some.ensures.exact in
     let len : length c.push.new.self.items ≡ length c.loop-left.found.items + 1 = omega arith in
     record {
-      read = rw (c.push.ensures.items, map_push) (rw one at (sym on ∙ c.loop-left.invariant.read));
+      read = rw (c.push.ensures.items, map_push) (goes_good _ _ (drop c.loop-left.at c.args.bytes.now) _ _ c.loop-left.whole (plain_asdus c.loop-left.found.items) (plain_asdu c.in-Some.asdu) _ fewer c.in-Ok.ensures.exact c.if-text-ne48.false c.in-Some.ensures.exact c.loop-left.invariant.read);
       here = omega (arith, c.in-Ok.ensures.within);
       few = omega arith;
       all = λ is. omega (arith, c.loop-left.invariant.all is);
@@ -31,10 +29,8 @@ loop-left-preserved-in-Some g c =
 pub loop-left-preserved : goal.loop-left-preserved
 loop-left-preserved g c =
     let fewer : c.loop-left.left ≡ suc (c.loop-left.left - 1) = omega arith in
-    let on = goes_on _ _ (drop c.loop-left.at c.args.bytes.now) _ _ (so_far c.loop-left.whole (plain_asdus c.loop-left.found.items)) fewer c.in-Ok.ensures.exact c.if-text-ne48.false in
-    let one = with_bad c.loop-left.whole (plain_asdus c.loop-left.found.items) _ c.in-None.ensures.exact in
     record {
-      read = rw one at (sym on ∙ c.loop-left.invariant.read);
+      read = goes_bad _ _ (drop c.loop-left.at c.args.bytes.now) _ _ c.loop-left.whole (plain_asdus c.loop-left.found.items) _ fewer c.in-Ok.ensures.exact c.if-text-ne48.false c.in-None.ensures.exact c.loop-left.invariant.read;
       here = omega (arith, c.in-Ok.ensures.within);
       few = omega arith;
       all = λ is. absurd cc;
