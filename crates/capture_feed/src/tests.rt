@@ -1,5 +1,7 @@
 ghost use Rattle.std.specs.Prelude.{◌^◌, ◌<◌, ◌≤◌};
 
+mod blocks;
+
 use crate::lending::lent_lengths;
 use crate::{Feed, FeedStop, put_header, put_record};
 use arrayvec::ArrayVec;
@@ -159,10 +161,12 @@ fn at_most_2048_bytes_are_lent(rt: HostRuntime) -> Result<(), Fail> {
 }
 
 /// A section header of version 1, lowest byte first.
-const SECTION: &[u8] = b"\x0a\x0d\x0d\x0a\x1c\0\0\0\x4d\x3c\x2b\x1a\x01\0\0\0\xff\xff\xff\xff\xff\xff\xff\xff\x1c\0\0\0";
+const SECTION: &[u8] =
+    b"\x0a\x0d\x0d\x0a\x1c\0\0\0\x4d\x3c\x2b\x1a\x01\0\0\0\xff\xff\xff\xff\xff\xff\xff\xff\x1c\0\0\0";
 
 /// The same, highest byte first.
-const BIG_SECTION: &[u8] = b"\x0a\x0d\x0d\x0a\0\0\0\x1c\x1a\x2b\x3c\x4d\0\x01\0\0\xff\xff\xff\xff\xff\xff\xff\xff\0\0\0\x1c";
+const BIG_SECTION: &[u8] =
+    b"\x0a\x0d\x0d\x0a\0\0\0\x1c\x1a\x2b\x3c\x4d\0\x01\0\0\xff\xff\xff\xff\xff\xff\xff\xff\0\0\0\x1c";
 
 /// An Ethernet interface with a snap length of 262,144, and one whose snap length is 3.
 const ETHERNET: &[u8] = b"\x01\0\0\0\x14\0\0\0\x01\0\0\0\0\0\x04\0\x14\0\0\0";
@@ -171,23 +175,29 @@ const SHORT_ETHERNET: &[u8] = b"\x01\0\0\0\x14\0\0\0\x01\0\0\0\x03\0\0\0\x14\0\0
 
 const BIG_ETHERNET: &[u8] = b"\0\0\0\x01\0\0\0\x14\0\x01\0\0\0\x04\0\0\0\0\0\x14";
 
-/// An interface of link type 0x71 without a snap length, and one with an option.
+/// An interface of link type 0x71 without a snap length.
 const COOKED: &[u8] = b"\x01\0\0\0\x14\0\0\0\x71\0\0\0\0\0\0\0\x14\0\0\0";
 
 /// A packet of 5 bytes on interface 0, and behind it 3 bytes of padding.
-const PACKET: &[u8] = b"\x06\0\0\0\x28\0\0\0\0\0\0\0\0\0\0\0\0\0\0\0\x05\0\0\0\x05\0\0\0abcde\0\0\0\x28\0\0\0";
+const PACKET: &[u8] =
+    b"\x06\0\0\0\x28\0\0\0\0\0\0\0\0\0\0\0\0\0\0\0\x05\0\0\0\x05\0\0\0abcde\0\0\0\x28\0\0\0";
 
-const BIG_PACKET: &[u8] = b"\0\0\0\x06\0\0\0\x28\0\0\0\0\0\0\0\0\0\0\0\0\0\0\0\x05\0\0\0\x05abcde\0\0\0\0\0\0\x28";
+const BIG_PACKET: &[u8] =
+    b"\0\0\0\x06\0\0\0\x28\0\0\0\0\0\0\0\0\0\0\0\0\0\0\0\x05\0\0\0\x05abcde\0\0\0\0\0\0\x28";
 
 /// The same with an end of options, with interface 1, and with a last length of 36.
-const PACKET_WITH_OPTION: &[u8] = b"\x06\0\0\0\x2c\0\0\0\0\0\0\0\0\0\0\0\0\0\0\0\x05\0\0\0\x05\0\0\0abcde\0\0\0\0\0\0\0\x2c\0\0\0";
+const PACKET_WITH_OPTION: &[u8] =
+    b"\x06\0\0\0\x2c\0\0\0\0\0\0\0\0\0\0\0\0\0\0\0\x05\0\0\0\x05\0\0\0abcde\0\0\0\0\0\0\0\x2c\0\0\0";
 
-const PACKET_ON_1: &[u8] = b"\x06\0\0\0\x28\0\0\0\x01\0\0\0\0\0\0\0\0\0\0\0\x05\0\0\0\x05\0\0\0abcde\0\0\0\x28\0\0\0";
+const PACKET_ON_1: &[u8] =
+    b"\x06\0\0\0\x28\0\0\0\x01\0\0\0\0\0\0\0\0\0\0\0\x05\0\0\0\x05\0\0\0abcde\0\0\0\x28\0\0\0";
 
-const PACKET_ENDING_36: &[u8] = b"\x06\0\0\0\x28\0\0\0\0\0\0\0\0\0\0\0\0\0\0\0\x05\0\0\0\x05\0\0\0abcde\0\0\0\x24\0\0\0";
+const PACKET_ENDING_36: &[u8] =
+    b"\x06\0\0\0\x28\0\0\0\0\0\0\0\0\0\0\0\0\0\0\0\x05\0\0\0\x05\0\0\0abcde\0\0\0\x24\0\0\0";
 
 /// A packet of 9 bytes in a block with room for 8.
-const PACKET_TOO_LONG: &[u8] = b"\x06\0\0\0\x28\0\0\0\0\0\0\0\0\0\0\0\0\0\0\0\x09\0\0\0\x09\0\0\0abcdefgh\x28\0\0\0";
+const PACKET_TOO_LONG: &[u8] =
+    b"\x06\0\0\0\x28\0\0\0\0\0\0\0\0\0\0\0\0\0\0\0\x09\0\0\0\x09\0\0\0abcdefgh\x28\0\0\0";
 
 /// A simple packet of 5 bytes, and one of 5 bytes of which 3 are captured.
 const SIMPLE: &[u8] = b"\x03\0\0\0\x18\0\0\0\x05\0\0\0abcde\0\0\0\x18\0\0\0";
@@ -208,34 +218,111 @@ fn joined(alloc: Global, blocks: &[&[u8]]) -> Result<Vec<u8>, AllocError> {
     Ok(capture)
 }
 
+/// The blocks of a capture.
+type BlockList = &'static [&'static [u8]];
+
+/// Blocks up to a whole end, how many records they hold, and the captured bytes of all.
+static WHOLE: [(BlockList, u64, u64); 7] = [
+    (&[SECTION, ETHERNET, PACKET], 1, 5),
+    (&[SECTION, ETHERNET, SIMPLE, PACKET_WITH_OPTION], 2, 10),
+    (&[SECTION, COOKED, PACKET, SIMPLE], 0, 0),
+    (&[SECTION, COOKED, ETHERNET, PACKET, PACKET_ON_1], 1, 5),
+    (&[SECTION, SHORT_ETHERNET, SHORT_SIMPLE, PACKET], 2, 8),
+    (&[SECTION, OBSOLETE, CUSTOM, ETHERNET, CUSTOM, PACKET], 1, 5),
+    (
+        &[
+            SECTION,
+            ETHERNET,
+            PACKET,
+            BIG_SECTION,
+            BIG_ETHERNET,
+            BIG_PACKET,
+        ],
+        2,
+        10,
+    ),
+];
+
 #[test]
-fn blocks_stop_as_they_should(rt: HostRuntime) -> Result<(), Fail> {
-    let damaged = |length: u32| Some(FeedStop::Damaged { length });
-    let rows: [(&[&[u8]], Came); 20] = [
-        (&[SECTION, ETHERNET, PACKET], (1, 5, None)),
-        (&[SECTION, ETHERNET, SIMPLE, PACKET_WITH_OPTION], (2, 10, None)),
-        (&[SECTION, COOKED, PACKET, SIMPLE], (0, 0, None)),
-        (&[SECTION, COOKED, ETHERNET, PACKET, PACKET_ON_1], (1, 5, None)),
-        (&[SECTION, SHORT_ETHERNET, SHORT_SIMPLE, PACKET], (2, 8, None)),
-        (&[SECTION, OBSOLETE, CUSTOM, ETHERNET, CUSTOM, PACKET], (1, 5, None)),
-        (&[SECTION, ETHERNET, PACKET, BIG_SECTION, BIG_ETHERNET, BIG_PACKET], (2, 10, None)),
-        (&[BIG_SECTION, BIG_ETHERNET, BIG_PACKET, SECTION, PACKET], (1, 5, damaged(40))),
-        (&[SECTION, ETHERNET, PACKET, b"\x0a\x0d\x0d\x0a\x1c\0\0\0aaaa"], (1, 5, damaged(28))),
-        (&[SECTION, ETHERNET, PACKET_ON_1], (0, 0, damaged(40))),
-        (&[SECTION, ETHERNET, PACKET, PACKET_ENDING_36], (1, 5, damaged(40))),
-        (&[SECTION, ETHERNET, PACKET_TOO_LONG], (0, 0, damaged(40))),
-        (&[SECTION, SIMPLE], (0, 0, damaged(24))),
-        (&[SECTION, SHORT_ETHERNET, SHORT_SIMPLE, SECTION, PACKET], (1, 3, damaged(40))),
-        (&[SECTION, b"\xad\x0b\0\0\x0e\0\0\0"], (0, 0, damaged(14))),
-        (&[SECTION, b"\xad\x0b\0\0\x08\0\0\0"], (0, 0, damaged(8))),
-        (&[SECTION, b"\xad\x0b\0\0\x04\0\0\x01"], (0, 0, damaged(16_777_220))),
-        (&[SECTION, b"\xad\x0b\0\0\x0c\0\0"], (0, 0, Some(FeedStop::Cut))),
-        (&[SECTION, ETHERNET, b"\x06\0\0\0\x28\0\0\0\x01\0\0"], (0, 0, Some(FeedStop::Cut))),
-        (&[b"\x0a\x0d\x0d\x0a\x1c\0\0\0\x4d\x3c\x2b\x1a\x02\0\0\0\xff\xff\xff\xff\xff\xff\xff\xff\x1c\0\0\0"], (0, 0, Some(FeedStop::NotCapture))),
-    ];
-    for (blocks, want) in rows {
+fn blocks_are_taken_up_to_the_end(rt: HostRuntime) -> Result<(), Fail> {
+    for (blocks, count, captured) in &WHOLE {
         let capture = joined(rt.alloc(), blocks)?;
-        comes(&rt, rt.alloc(), &capture, 1 << 40, want)?;
+        comes(
+            &rt,
+            rt.alloc(),
+            &capture,
+            1 << 40,
+            (*count, *captured, None),
+        )?;
+    }
+    Ok(())
+}
+
+/// Blocks up to a damaged one, how many records stand before it, the captured bytes of all, and the
+/// damaged block's total length.
+static DAMAGED: [(BlockList, u64, u64, u32); 10] = [
+    (
+        &[BIG_SECTION, BIG_ETHERNET, BIG_PACKET, SECTION, PACKET],
+        1,
+        5,
+        40,
+    ),
+    (
+        &[SECTION, ETHERNET, PACKET, b"\x0a\x0d\x0d\x0a\x1c\0\0\0aaaa"],
+        1,
+        5,
+        28,
+    ),
+    (&[SECTION, ETHERNET, PACKET_ON_1], 0, 0, 40),
+    (&[SECTION, ETHERNET, PACKET, PACKET_ENDING_36], 1, 5, 40),
+    (&[SECTION, ETHERNET, PACKET_TOO_LONG], 0, 0, 40),
+    (&[SECTION, SIMPLE], 0, 0, 24),
+    (
+        &[SECTION, SHORT_ETHERNET, SHORT_SIMPLE, SECTION, PACKET],
+        1,
+        3,
+        40,
+    ),
+    (&[SECTION, b"\xad\x0b\0\0\x0e\0\0\0"], 0, 0, 14),
+    (&[SECTION, b"\xad\x0b\0\0\x08\0\0\0"], 0, 0, 8),
+    (&[SECTION, b"\xad\x0b\0\0\x04\0\0\x01"], 0, 0, 16_777_220),
+];
+
+#[test]
+fn a_damaged_block_tells_its_length(rt: HostRuntime) -> Result<(), Fail> {
+    for (blocks, count, captured, length) in &DAMAGED {
+        let capture = joined(rt.alloc(), blocks)?;
+        let stop = FeedStop::Damaged { length: *length };
+        comes(
+            &rt,
+            rt.alloc(),
+            &capture,
+            1 << 40,
+            (*count, *captured, Some(stop)),
+        )?;
+    }
+    Ok(())
+}
+
+/// A section header of version 2.
+const VERSION_2: &[u8] =
+    b"\x0a\x0d\x0d\x0a\x1c\0\0\0\x4d\x3c\x2b\x1a\x02\0\0\0\xff\xff\xff\xff\xff\xff\xff\xff\x1c\0\0\0";
+
+/// Blocks without a record, and how they stop.
+static CUT: [(BlockList, FeedStop); 3] = [
+    (&[SECTION, b"\xad\x0b\0\0\x0c\0\0"], FeedStop::Cut),
+    (
+        &[SECTION, ETHERNET, b"\x06\0\0\0\x28\0\0\0\x01\0\0"],
+        FeedStop::Cut,
+    ),
+    (&[VERSION_2], FeedStop::NotCapture),
+];
+
+#[test]
+fn a_block_is_cut_or_of_another_version(rt: HostRuntime) -> Result<(), Fail> {
+    for (blocks, stop) in &CUT {
+        let capture = joined(rt.alloc(), blocks)?;
+        comes(&rt, rt.alloc(), &capture, 1 << 40, (0, 0, Some(*stop)))?;
     }
     Ok(())
 }
