@@ -104,6 +104,32 @@ some_cycle common is = elim is.cycle [
   | inr (inr third) ↦ omega (arith, third.2)
 ]
 
+-- and more than one
+pub two_cycle : (common : Common) → IsCommon common → 2 ≤ common.n
+two_cycle common is = elim is.cycle [
+  | inl first ↦ omega (arith, first.2)
+  | inr (inl second) ↦ omega (arith, second.2)
+  | inr (inr third) ↦ omega (arith, third.2)
+]
+
+-- what a line keeps of what all lines share
+pub common_rated : (common : Common) → IsCommon common → 1 < common.rate
+common_rated common is = elim is.cycle [
+  | inl first ↦ omega (arith, first.0)
+  | inr (inl second) ↦ omega (arith, second.0)
+  | inr (inr third) ↦ omega (arith, third.0)
+]
+
+pub common_cycle : (common : Common) → IsCommon common → is_cycle common.n ≡ true
+common_cycle common is = elim is.cycle [
+  | inl first ↦ ap is_cycle first.2
+  | inr (inl second) ↦ ap is_cycle second.2
+  | inr (inr third) ↦ ap is_cycle third.2
+]
+
+pub cycle_two : (n : ℕ) → is_cycle n ≡ true → 2 ≤ n
+cycle_two n e = grind (arith, nat_tests)
+
 pub cycle_some : (n : ℕ) → is_cycle n ≡ true → 0 < n
 cycle_some zero e = absurd (false≢true e)
 cycle_some (suc n) e = omega arith

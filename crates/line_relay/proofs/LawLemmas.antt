@@ -5,12 +5,11 @@ use Rattle.relay_settings.specs.declared.types.Common.{Common}
 use Rattle.relay_settings.specs.Settings.{PlainLine}
 use Rattle.sv_frame.specs.Asdu.{PlainAsdu}
 use Rattle.event_record.specs.Time.{time_of}
-use Rattle.event_record.specs.declared.event.Event.{Event}
 use Rattle.line_relay.specs.Samples.{Numbered, newest_of}
 use Rattle.line_relay.specs.Facts.{facts_of}
 use Rattle.line_relay.specs.Outcomes.{number_taken, with_sample, outcome_after, taken_samples, outcome_of}
 use Rattle.line_relay.specs.Events.{arrival, changes, told}
-use Rattle.line_relay.specs.Bursts.{UntakenKeeps}
+use Rattle.line_relay.specs.Bursts.{PlainBurst, sent_by, UntakenKeeps}
 
 module _ (common : Common) (settings : PlainLine) where
   -- the samples after one more sample set
@@ -18,11 +17,14 @@ module _ (common : Common) (settings : PlainLine) where
   samples_with a samples = with_sample common settings (number_taken (outcome_after common settings (newest_of samples) a)) a samples
 
   -- what the next sample set brings depends on the samples alone
-  abbrev burst_by : PlainAsdu → List Numbered → List Event
-  burst_by a samples =
-      told (option_map (time_of common) (newest_of (samples_with a samples)))
-      (arrival a.counter (outcome_after common settings (newest_of samples) a)
-      ++ changes (facts_of common settings samples) (facts_of common settings (samples_with a samples)))
+  abbrev burst_by : PlainAsdu → List Numbered → PlainBurst
+  burst_by a samples = record {
+    events =
+        told (option_map (time_of common) (newest_of (samples_with a samples)))
+        (arrival a.counter (outcome_after common settings (newest_of samples) a)
+        ++ changes (facts_of common settings samples) (facts_of common settings (samples_with a samples)));
+    send = sent_by common settings (number_taken (outcome_after common settings (newest_of samples) a)) (samples_with a samples);
+  }
 
   kept : (later : List PlainAsdu) (a : PlainAsdu) (older : List PlainAsdu) → number_taken (outcome_of common settings a older) ≡ None →
       taken_samples common settings (later ++ a ∷ older) ≡ taken_samples common settings (later ++ older)

@@ -1,6 +1,11 @@
-mod FilterLemmas
-mod CycleLemmas
-mod FrontLemmas
-mod FactLemmas
-mod LawLemmas
-mod EventLemmas
+pub mod FilterLemmas
+pub mod CycleLemmas
+pub mod FrontLemmas
+pub mod LawLemmas
+pub mod EventLemmas
+pub mod LoopLemmas
+pub mod InsideLemmas
+pub mod NextLemmas
+pub mod FactLemmas
+pub mod LineLemmas
+pub mod RangeProps

@@ -1,35 +1,54 @@
 //! What a line tells of a sample set.
-ghost use Rattle.std.specs.Prelude.{◌≡◌, ◌+◌, ◌<◌, ◌≤◌, ◌++◌, ◌∷◌, []};
+ghost use Rattle.std.specs.Prelude.{ℕ, ◌≡◌, ◌≤◌, ◌<◌, ◌+◌, ◌++◌, [], ◌∷◌};
+ghost use Rattle.std.specs.Option.{option_map};
 ghost use Rattle.arrayvec.specs.ArrayVec.{array_vec_len};
-ghost use Rattle.line_relay.specs.Events.{arrival, begins, changes, edge, told};
+ghost use Rattle.event_record.specs.Time.{time_of};
+ghost use Rattle.line_relay.specs.Events.{arrival, edge, begins, told, loop_edges, loop_beginnings, zone_edges, zone_beginnings};
+ghost use Rattle.line_relay.specs.Shown.{trip_edge, shown_changes};
+ghost use Rattle.loop_impedance.specs.Masks.{has_bit};
 
 use crate::front::Outcome;
+use crate::loops::has_bit;
+use crate::shown::Shown;
 use arrayvec::ArrayVec;
-use event_record::{At, Event, What};
+use event_record::{At, Event, What, at_of};
+use relay_settings::Common;
 use sample_stream::Taken;
+use trip_logic::TripState;
 
-/// What holds at the last taken sample.
-#[derive(Clone, Copy, PartialEq, Eq, Debug)]
-pub struct Facts {
-    /// A whole cycle of taken and good samples ends here.
-    pub ready: bool,
-    /// Loop AG is inside the zone.
-    pub inside: bool,
-    /// The zone operates in loop AG.
-    pub operates: bool,
-    /// The trip is sealed in.
-    pub trip: bool,
+/// The moment of the last taken sample.
+fn moment(common: &Common, last: Option<u64>) -> Option<At>
+    requires { 1 < common.now.rate }
+    ensures { result ≡ option_map (time_of common.now) last }
+{
+    match last {
+        Some(number) => Some(at_of(common, number)),
+        None => None,
+    }
+}
+
+/// Tells this of the last taken sample. A time is formed only where something is told.
+fn tell(events: &mut ArrayVec<Event, 96>, common: &Common, last: Option<u64>, what: What)
+    requires rate { 1 < common.now.rate }
+    requires room { array_vec_len events.old < 96 }
+    ensures events { events.new.items ≡ events.old.items ++ told (option_map (time_of common.now) last) (what ∷ []) }
+    ensures few { array_vec_len events.new ≤ array_vec_len events.old + 1 }
+{
+    let at = moment(common, last);
+    events.push(Event::Line { at, what });
 }
 
 /// Tells how a sample set with this counter came.
 pub fn push_arrival(
     events: &mut ArrayVec<Event, 96>,
-    at: Option<At>,
+    common: &Common,
+    last: Option<u64>,
     counter: u16,
     outcome: Outcome,
 )
-    requires { array_vec_len events.old < 96 }
-    ensures events { events.new.items ≡ events.old.items ++ told at (arrival counter outcome) }
+    requires rate { 1 < common.now.rate }
+    requires room { array_vec_len events.old < 96 }
+    ensures events { events.new.items ≡ events.old.items ++ told (option_map (time_of common.now) last) (arrival counter outcome) }
     ensures few { array_vec_len events.new ≤ array_vec_len events.old + 1 }
 {
     let what = match outcome {
@@ -42,56 +61,195 @@ pub fn push_arrival(
         Outcome::Counter(Taken::Late { behind }) => What::Late { counter, behind },
         Outcome::Counter(Taken::Wild) => What::Wild { counter },
     };
-    events.push(Event::Line { at, what });
+    tell(events, common, last, what);
 }
 
 /// Tells each fact that isn't as it was.
-pub fn push_changes(events: &mut ArrayVec<Event, 96>, at: Option<At>, before: &Facts, now: &Facts)
-    requires { array_vec_len events.old < 90 }
-    ensures { events.new.items ≡ events.old.items ++ told at (changes before.now now.now) }
+pub fn push_changes(
+    events: &mut ArrayVec<Event, 96>,
+    common: &Common,
+    last: Option<u64>,
+    before: &Shown,
+    now: &Shown,
+    trip: &TripState,
+)
+    requires rate { 1 < common.now.rate }
+    requires room { array_vec_len events.old + 64 ≤ 96 }
+    ensures { events.new.items ≡ events.old.items ++ told (option_map (time_of common.now) last) (shown_changes before.now now.now trip.now) }
 {
-    let entered = What::Entered { zone: 1, lp: 0 };
-    let left = What::Left { zone: 1, lp: 0 };
-    let operate = What::Operate { zone: 1, lp: 0 };
-    push_edge(events, at, What::Ready, What::Lost, before.ready, now.ready);
-    push_edge(events, at, entered, left, before.inside, now.inside);
-    push_beginning(events, at, operate, before.operates, now.operates);
-    push_beginning(events, at, What::Trip, before.trip, now.trip);
+    push_edge(
+        events,
+        common,
+        last,
+        What::Ready,
+        What::Lost,
+        before.ready,
+        now.ready,
+    );
+    push_edge(
+        events,
+        common,
+        last,
+        What::SwingOn,
+        What::SwingOff,
+        before.swing,
+        now.swing,
+    );
+    push_edge(
+        events,
+        common,
+        last,
+        What::FuseOn,
+        What::FuseOff,
+        before.fuse,
+        now.fuse,
+    );
+    push_zone_edges(events, common, last, &before.inside, &now.inside);
+    push_zone_beginnings(events, common, last, &before.operate, &now.operate);
+    push_trip(events, common, last, trip);
+}
+
+/// Tells that the trip begins or ends.
+fn push_trip(events: &mut ArrayVec<Event, 96>, common: &Common, last: Option<u64>, trip: &TripState)
+    requires rate { 1 < common.now.rate }
+    requires room { array_vec_len events.old < 96 }
+    ensures { events.new.items ≡ events.old.items ++ told (option_map (time_of common.now) last) (trip_edge trip.now) }
+{
+    if trip.rose {
+        tell(events, common, last, What::Trip);
+    } else if trip.fell {
+        tell(events, common, last, What::Reset);
+    }
+}
+
+/// Tells which loops of which zones go in and out.
+fn push_zone_edges(
+    events: &mut ArrayVec<Event, 96>,
+    common: &Common,
+    last: Option<u64>,
+    before: &[u8; 5],
+    now: &[u8; 5],
+)
+    requires rate { 1 < common.now.rate }
+    requires room { array_vec_len events.old + 30 ≤ 96 }
+    ensures events { events.new.items ≡ events.old.items ++ told (option_map (time_of common.now) last) (zone_edges before.now now.now) }
+    ensures few { array_vec_len events.new ≤ array_vec_len events.old + 30 }
+{
+    for place in 0..5 {
+        let (was, is) = (before[place], now[place]);
+        if was != is {
+            push_loop_edges(events, common, last, place as u8 + 1, was, is);
+        }
+    }
+}
+
+/// Tells which loops of a zone go in and out.
+fn push_loop_edges(
+    events: &mut ArrayVec<Event, 96>,
+    common: &Common,
+    last: Option<u64>,
+    zone: u8,
+    before: u8,
+    now: u8,
+)
+    requires rate { 1 < common.now.rate }
+    requires room { array_vec_len events.old + 6 ≤ 96 }
+    ensures events { events.new.items ≡ events.old.items ++ told (option_map (time_of common.now) last) (loop_edges zone before now) }
+    ensures few { array_vec_len events.new ≤ array_vec_len events.old + 6 }
+{
+    for lp in 0..6 {
+        let (was, is) = (has_bit(before, lp), has_bit(now, lp));
+        let entered = What::Entered { zone, lp: lp as u8 };
+        let left = What::Left { zone, lp: lp as u8 };
+        push_edge(events, common, last, entered, left, was, is);
+    }
+}
+
+/// Tells in which loops which zones begin to operate.
+fn push_zone_beginnings(
+    events: &mut ArrayVec<Event, 96>,
+    common: &Common,
+    last: Option<u64>,
+    before: &[u8; 5],
+    now: &[u8; 5],
+)
+    requires rate { 1 < common.now.rate }
+    requires room { array_vec_len events.old + 30 ≤ 96 }
+    ensures events { events.new.items ≡ events.old.items ++ told (option_map (time_of common.now) last) (zone_beginnings before.now now.now) }
+    ensures few { array_vec_len events.new ≤ array_vec_len events.old + 30 }
+{
+    for place in 0..5 {
+        let (was, is) = (before[place], now[place]);
+        if was != is {
+            push_loop_beginnings(events, common, last, place as u8 + 1, was, is);
+        }
+    }
+}
+
+/// Tells in which loops a zone begins to operate.
+fn push_loop_beginnings(
+    events: &mut ArrayVec<Event, 96>,
+    common: &Common,
+    last: Option<u64>,
+    zone: u8,
+    before: u8,
+    now: u8,
+)
+    requires rate { 1 < common.now.rate }
+    requires room { array_vec_len events.old + 6 ≤ 96 }
+    ensures events { events.new.items ≡ events.old.items ++ told (option_map (time_of common.now) last) (loop_beginnings zone before now) }
+    ensures few { array_vec_len events.new ≤ array_vec_len events.old + 6 }
+{
+    for lp in 0..6 {
+        let (was, is) = (has_bit(before, lp), has_bit(now, lp));
+        push_beginning(
+            events,
+            common,
+            last,
+            What::Operate { zone, lp: lp as u8 },
+            was,
+            is,
+        );
+    }
 }
 
 /// Tells a fact that begins.
 fn push_beginning(
     events: &mut ArrayVec<Event, 96>,
-    at: Option<At>,
+    common: &Common,
+    last: Option<u64>,
     on: What,
     before: bool,
     now: bool,
 )
-    requires { array_vec_len events.old < 96 }
-    ensures events { events.new.items ≡ events.old.items ++ told at (begins on before now) }
+    requires rate { 1 < common.now.rate }
+    requires room { array_vec_len events.old < 96 }
+    ensures events { events.new.items ≡ events.old.items ++ told (option_map (time_of common.now) last) (begins on before now) }
     ensures few { array_vec_len events.new ≤ array_vec_len events.old + 1 }
 {
     if now && !before {
-        events.push(Event::Line { at, what: on });
+        tell(events, common, last, on);
     }
 }
 
 /// Tells a fact that begins or ends.
 fn push_edge(
     events: &mut ArrayVec<Event, 96>,
-    at: Option<At>,
+    common: &Common,
+    last: Option<u64>,
     on: What,
     off: What,
     before: bool,
     now: bool,
 )
-    requires { array_vec_len events.old < 96 }
-    ensures events { events.new.items ≡ events.old.items ++ told at (edge on off before now) }
+    requires rate { 1 < common.now.rate }
+    requires room { array_vec_len events.old < 96 }
+    ensures events { events.new.items ≡ events.old.items ++ told (option_map (time_of common.now) last) (edge on off before now) }
     ensures few { array_vec_len events.new ≤ array_vec_len events.old + 1 }
 {
     if now && !before {
-        events.push(Event::Line { at, what: on });
+        tell(events, common, last, on);
     } else if before && !now {
-        events.push(Event::Line { at, what: off });
+        tell(events, common, last, off);
     }
 }

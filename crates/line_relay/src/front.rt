@@ -28,6 +28,21 @@ pub enum Outcome {
     Counter(Taken),
 }
 
+impl Outcome {
+    ghost use Rattle.std.specs.Prelude.{◌≡◌};
+    ghost use Rattle.line_relay.specs.Outcomes.{number_taken};
+
+    /// The number that the sample gets, exactly where it is taken.
+    pub fn number(self) -> Option<u64>
+        ensures { result ≡ number_taken self }
+    {
+        match self {
+            Outcome::Counter(taken) => taken.number(),
+            Outcome::ConfRev { .. } | Outcome::Length { .. } => None,
+        }
+    }
+}
+
 /// What the front says of a sample set.
 #[derive(Clone, Copy)]
 pub struct Step {
@@ -75,7 +90,7 @@ pub struct Front {
 }
 
 impl Front {
-    ghost use Rattle.std.specs.Prelude.{ℕ, ◌≡◌, ◌<◌, ◌≤◌, ◌^◌, ◌+◌, IfOk, None, List, [], ◌∷◌};
+    ghost use Rattle.std.specs.Prelude.{ℕ, ◌≡◌, ◌<◌, ◌≤◌, ◌^◌, ◌+◌, IfOk, None, Some, List, [], ◌∷◌};
     ghost use Rattle.std.specs.List.{All};
     ghost use Rattle.std.specs.Option.{ForSome};
     ghost use Rattle.relay_num.specs.Numbers.{IsBelow};
@@ -83,7 +98,7 @@ impl Front {
     ghost use Rattle.relay_settings.specs.Settings.{PlainLine, plain_line};
     ghost use Rattle.relay_settings.specs.Ranges.{IsCommon, IsLine};
     ghost use Rattle.sv_frame.specs.Asdu.{PlainAsdu, plain_asdu};
-    ghost use Rattle.line_relay.specs.Outcomes.{taken_number};
+    ghost use Rattle.line_relay.specs.Outcomes.{number_taken, taken_number};
     ghost use Rattle.line_relay.specs.Steps.{step_of};
     ghost use Rattle.line_relay.specs.Fronts.{StandsFor};
 
@@ -120,6 +135,7 @@ impl Front {
             result ≡ step_of common settings (plain_asdu a.now) asdus }
         ensures after { (common : Common) (settings : PlainLine) (asdus : List PlainAsdu) → StandsFor common settings asdus self.old →
             StandsFor common settings (plain_asdu a.now ∷ asdus) self.new }
+        ensures taken { ForSome (number_taken result.outcome) (λ number. self.new.numberer.last ≡ Some number) }
         ensures small { ForSome result.phasors (λ phasors. All (λ p. IsBelow p (2 ^ 30 + 1)) phasors) }
         ensures cost { steps.new ≤ steps.old + 1 }
     {

@@ -1,107 +1,213 @@
-//! One line.
-ghost use Rattle.std.specs.Prelude.{◌≡◌, ◌<◌, ◌≤◌, ◌+◌, ◌^◌, length};
-ghost use Rattle.std.specs.List.{All};
-ghost use Rattle.std.specs.Option.{option_map, ForSome};
+//! One line of the relay.
+ghost use Rattle.std.specs.Prelude.{◌≡◌, ◌<◌, ◌^◌, ◌+◌, true, All};
+ghost use Rattle.std.specs.Option.{ForSome, option_map};
 ghost use Rattle.relay_num.specs.Numbers.{IsBelow};
-ghost use Rattle.event_record.specs.Time.{time_of};
-ghost use Rattle.event_record.specs.Printable.{IsPrintableAt};
-ghost use Rattle.line_relay.specs.FactSteps.{facts_after as facts_after_step};
+ghost use Rattle.relay_settings.specs.Ranges.{IsLine};
+ghost use Rattle.relay_num.specs.Bounds.{is_cycle};
+ghost use Rattle.memory_volt.specs.KeptMemory.{HoldsBelow};
+ghost use Rattle.line_relay.specs.Measured.{measured};
+ghost use Rattle.line_relay.specs.Sizes.{IsMeasured};
 
-use crate::events::{Facts, push_arrival, push_changes};
-use crate::front::{Front, Step};
-use crate::zone::{MhoZone, is_inside, zone_of};
+use crate::burst::Burst;
+use crate::decide::{is_dead, trips};
+use crate::delays::{ground_delays, phase_delays};
+use crate::events::{push_arrival, push_changes};
+use crate::front::Front;
+use crate::guards::{new_fuse, new_swing, polarise, take_fuse, take_swing};
+use crate::inside::inside_masks;
+use crate::measured::{Measured, measure};
+use crate::shown::{Shown, points_of};
 use arrayvec::ArrayVec;
-use event_record::{At, Event, at_of};
+use event_record::{At, at_of};
+use goose_publish::{Publisher, Send};
+use memory_volt::MemoryVolt;
 use relay_num::{Cx, NoMemory, Steps};
-use relay_settings::{Common, LineSettings};
+use relay_settings::{Common, LineSettings, samples_of};
 use std::alloc::Global;
 use std::sync::ledger::Ledger;
+use supervise::Fuse;
 use sv_frame::Asdu;
-
-/// What a sample set brings: events, in the order in which they are told.
-#[derive(Drop)]
-pub struct Burst {
-    pub events: ArrayVec<Event, 96>,
-}
+use swing_block::Swing;
+use trip_logic::Trip;
+use zone_timers::Timers;
 
 /// One line, after its own sample sets so far.
 #[derive(Drop)]
 pub struct Line {
     common: Common,
-    name: ArrayVec<u8, 16>,
-    k0: Cx,
-    zone: Option<MhoZone>,
+    settings: LineSettings,
     front: Front,
-    shown: Facts,
+    memory: MemoryVolt,
+    swing: Option<Swing>,
+    fuse: Option<Fuse>,
+    timers: Timers,
+    trip: Trip,
+    publisher: Publisher,
+    shown: Shown,
     ghost rated: { 1 < common.rate },
-    ghost compensation: { IsBelow k0 4001 },
-    ghost reach: { ForSome zone (λ zone. IsBelow zone.reach (2 ^ 20)) },
+    ghost cycle: { is_cycle common.n ≡ true },
+    ghost ranges: { ∥ IsLine settings ∥₁ },
+    ghost remembered: { HoldsBelow (2 ^ 32) memory },
 }
 
 impl Line {
-    ghost use Rattle.std.specs.Prelude.{ℕ, ◌≡◌, ◌<◌, ◌≤◌, ◌^◌, ◌+◌, length, IfOk, None, List, [], ◌∷◌};
+    ghost use Rattle.std.specs.Prelude.{ℕ, ◌≡◌, ◌<◌, ◌≤◌, ◌^◌, ◌+◌, ◌++◌, length, IfOk, None, Some, List, [], ◌∷◌, Option};
     ghost use Rattle.std.specs.List.{All};
-    ghost use Rattle.std.specs.Option.{ForSome};
+    ghost use Rattle.std.specs.Option.{ForSome, option_map};
+    ghost use Rattle.std.specs.Str.{bytes_eq};
+    ghost use Rattle.arrayvec.specs.ArrayVec.{array_vec_len};
     ghost use Rattle.relay_settings.specs.declared.types.Common.{Common};
     ghost use Rattle.relay_settings.specs.Settings.{PlainLine, plain_line};
     ghost use Rattle.relay_settings.specs.Ranges.{IsCommon, IsLine};
     ghost use Rattle.sv_frame.specs.Asdu.{PlainAsdu, plain_asdu};
     ghost use Rattle.event_record.specs.Printable.{IsPrintable};
-    ghost use Rattle.line_relay.specs.Bursts.{burst};
+    ghost use Rattle.event_record.specs.Time.{time_of};
+    ghost use Rattle.goose_publish.specs.Frame.{frame_bytes};
+    ghost use Rattle.line_relay.specs.Samples.{Numbered};
     ghost use Rattle.line_relay.specs.Outcomes.{taken_number};
-    ghost use Rattle.line_relay.specs.Lines.{StandsFor, last_of, name_of};
-    ghost use Rattle.line_relay.specs.Zones.{IsBuilt};
+    ghost use Rattle.line_relay.specs.Events.{changes, told};
+    ghost use Rattle.line_relay.specs.Facts.{facts_of};
+    ghost use Rattle.line_relay.specs.Points.{send_at};
+    ghost use Rattle.line_relay.specs.Bursts.{burst as burst_of, plain_burst};
+    ghost use Rattle.line_relay.specs.Sizes.{IsMeasured};
+    ghost use Rattle.line_relay.specs.KeptLine.{StandsFor, HoldsFor, kept_by, last_of, name_of};
+    ghost use Rattle.line_relay.specs.Noted.{IsNext};
 
-    /// A line that has taken nothing. The settings ask for what is built: at most one zone, to the
-    /// ground loops a mho without delay, that isn't reverse, and no swing, fuse or load table. `NoMemory` comes only where the allocator
-    /// has no room for a cycle of samples; nothing is made then.
+    /// A line that has heard nothing. `NoMemory` comes only where the allocator has no room for a cycle of
+    /// samples and of voltages; nothing is made then.
     pub fn new(alloc: Global, common: &Common, s: &LineSettings) -> Result<Line, NoMemory>
         requires common { IsCommon common.now }
         requires settings { IsLine s.now }
-        requires built { IsBuilt (plain_line s.now) }
         ensures { IfOk result (λ line. StandsFor common.now (plain_line s.now) [] line × (last_of line ≡ None)) }
     {
+        let rate = common.rate;
         let front = Front::new(alloc, common, s)?;
+        let memory = MemoryVolt::new(alloc, common.n, samples_of(rate, s.mem_ms))?;
+        let zones = s.zones.as_slice();
         Ok(Line {
             common: *common,
-            name: copy_of(s.name.as_slice()),
-            k0: Cx {
-                re: s.k0_re,
-                im: s.k0_im,
-            },
-            zone: zone_of(s.zones.as_slice()),
+            settings: s.copy(),
             front,
-            shown: Facts {
-                ready: false,
-                inside: false,
-                operates: false,
-                trip: false,
-            },
+            memory,
+            swing: new_swing(s, rate),
+            fuse: new_fuse(s, rate),
+            timers: Timers::new(&ground_delays(rate, zones), &phase_delays(rate, zones)),
+            trip: Trip::new(samples_of(rate, s.trip_min_ms), samples_of(rate, s.open_ms)),
+            publisher: Publisher::new(common, &s.goose),
+            shown: Shown::new(),
         })
     }
 
-    /// Takes the next sample set of the line, and says what it brings. The last number has to be below
+    /// Takes the next sample set of the line, and answers what it brings. The last number has to be below
     /// 2^60. A sample set that isn't taken brings one event, and changes nothing else.
     pub fn take<L: Ledger>(&mut self, a: &Asdu<'_>, steps: &mut Steps<L>) -> Burst
         requires { ForSome (last_of self.old) (λ last. last < 2 ^ 60) }
         ensures grows { (most : ℕ) → ForSome (last_of self.old) (λ last. last ≤ most) → ForSome (last_of self.new) (λ last. last ≤ most + 4800) }
         // By the sample sets before: for each list of them that the line stands for.
         ensures burst { (common : Common) (settings : PlainLine) (asdus : List PlainAsdu) → StandsFor common settings asdus self.old →
-            result.events.items ≡ burst common settings (plain_asdu a.now ∷ asdus) }
+            plain_burst result ≡ burst_of common settings (plain_asdu a.now ∷ asdus) }
         ensures after { (common : Common) (settings : PlainLine) (asdus : List PlainAsdu) → StandsFor common settings asdus self.old →
             StandsFor common settings (plain_asdu a.now ∷ asdus) self.new }
         ensures printable { All IsPrintable result.events.items }
         ensures name { name_of self.new ≡ name_of self.old }
         ensures cost { steps.new ≤ steps.old + 34 }
     {
+        let mut burst = Burst::new();
+        self.take_into(a, &mut burst, steps);
+        burst
+    }
+
+    /// The same, with what it brings in place of what the burst held.
+    pub fn take_into<L: Ledger>(&mut self, a: &Asdu<'_>, burst: &mut Burst, steps: &mut Steps<L>)
+        requires { ForSome (last_of self.old) (λ last. last < 2 ^ 60) }
+        ensures grows { (most : ℕ) → ForSome (last_of self.old) (λ last. last ≤ most) → ForSome (last_of self.new) (λ last. last ≤ most + 4800) }
+        // By the sample sets before: for each list of them that the line stands for.
+        ensures burst { (common : Common) (settings : PlainLine) (asdus : List PlainAsdu) → StandsFor common settings asdus self.old →
+            plain_burst burst.new ≡ burst_of common settings (plain_asdu a.now ∷ asdus) }
+        ensures after { (common : Common) (settings : PlainLine) (asdus : List PlainAsdu) → StandsFor common settings asdus self.old →
+            StandsFor common settings (plain_asdu a.now ∷ asdus) self.new }
+        ensures printable { All IsPrintable burst.new.events.items }
+        ensures name { name_of self.new ≡ name_of self.old }
+        ensures cost { steps.new ≤ steps.old + 34 }
+    {
+        burst.clear();
         let step = self.front.take(a, steps);
-        let at = moment(&self.common, self.front.last());
-        let now = facts_after(self.k0, self.zone, &self.shown, &step, steps);
-        let mut events = ArrayVec::new();
-        push_arrival(&mut events, at, a.counter, step.outcome);
-        push_changes(&mut events, at, &self.shown, &now);
-        self.shown = now;
-        Burst { events }
+        let last = self.front.last();
+        push_arrival(
+            &mut burst.events,
+            &self.common,
+            last,
+            a.counter,
+            step.outcome,
+        );
+        let Some(number) = step.outcome.number() else {
+            return;
+        };
+        let measured = measured_of(&step.phasors);
+        self.note(number, &measured, burst, steps);
+    }
+
+    /// Takes a sample, of which this is measured where it is ready: the guards, the loops inside each zone,
+    /// the delays, the trip, the events and the frame.
+    fn note<L: Ledger>(
+        &mut self,
+        number: u64,
+        measured: &Option<Measured>,
+        burst: &mut Burst,
+        steps: &mut Steps<L>,
+    )
+        requires number { number < 2 ^ 61 }
+        requires measured { ForSome measured.now IsMeasured }
+        requires room { array_vec_len burst.old.events + 64 ≤ 96 }
+        // For the samples of each past that the line holds.
+        ensures after { (s : Numbered) (past : List Numbered) → IsNext self.old.common (plain_line self.old.settings) s past (kept_by self.old) number measured.now →
+            HoldsFor self.old.common (plain_line self.old.settings) (s ∷ past) (kept_by self.new) }
+        ensures events { (s : Numbered) (past : List Numbered) → IsNext self.old.common (plain_line self.old.settings) s past (kept_by self.old) number measured.now →
+            burst.new.events.items ≡ burst.old.events.items ++ told (option_map (time_of self.old.common) (Some number))
+            (changes (facts_of self.old.common (plain_line self.old.settings) past) (facts_of self.old.common (plain_line self.old.settings) (s ∷ past))) }
+        ensures send { (s : Numbered) (past : List Numbered) → IsNext self.old.common (plain_line self.old.settings) s past (kept_by self.old) number measured.now →
+            burst.new.send ≡ send_at self.old.common (plain_line self.old.settings) (s ∷ past) }
+        ensures printable { All IsPrintable burst.old.events.items → All IsPrintable burst.new.events.items }
+        ensures same_common { self.new.common ≡ self.old.common }
+        ensures same_settings { self.new.settings ≡ self.old.settings }
+        ensures same_front { self.new.front ≡ self.old.front }
+        ensures cost { steps.new ≤ steps.old + 31 }
+    {
+        let n = self.common.n;
+        let polarising = polarise(&mut self.memory, n, self.settings.mem_u, measured, steps);
+        let swing = take_swing(&mut self.swing, &self.settings.swing, measured);
+        let fuse = take_fuse(&mut self.fuse, n, &self.settings.fuse, measured);
+        let inside = inside_masks(&self.settings, n, measured, polarising, swing, fuse, steps);
+        let operate = self.timers.take(&inside);
+        let operated = trips(self.settings.zones.as_slice(), &operate);
+        let trip = self
+            .trip
+            .take(number, operated, is_dead(&self.settings, n, measured));
+        let shown = Shown {
+            ready: measured.is_some(),
+            swing,
+            fuse,
+            inside,
+            operate,
+        };
+        push_changes(
+            &mut burst.events,
+            &self.common,
+            Some(number),
+            &self.shown,
+            &shown,
+            &trip,
+        );
+        burst.send = self.publisher.take(number, &points_of(&shown, trip.on));
+        self.shown = shown;
+    }
+
+    /// Whether a sample set is the line's own, which its svID says.
+    pub fn owns(&self, a: &Asdu<'_>) -> bool
+        ensures { (common : Common) (settings : PlainLine) (asdus : List PlainAsdu) → StandsFor common settings asdus self.now →
+            result ≡ bytes_eq settings.sv_id (plain_asdu a.now).sv_id }
+    {
+        self.settings.sv_id.as_slice() == a.sv_id
     }
 
     /// The last number that was taken.
@@ -118,59 +224,37 @@ impl Line {
         ensures name { result.now ≡ name_of self.now }
         ensures short { length result.now ≤ 16 }
     {
-        self.name.as_slice()
+        self.settings.name.as_slice()
+    }
+
+    /// The moment of the sample with this number.
+    pub fn moment(&self, number: u64) -> At
+        ensures { (common : Common) (settings : PlainLine) (asdus : List PlainAsdu) → StandsFor common settings asdus self.now →
+            result ≡ time_of common number }
+    {
+        at_of(&self.common, number)
+    }
+
+    /// The bytes of a frame that the line sends (IEC 61850-8-1), from the destination to the end of the PDU.
+    pub fn frame_bytes(&self, send: &Send) -> ArrayVec<u8, 1024>
+        ensures bytes { (common : Common) (settings : PlainLine) (asdus : List PlainAsdu) → StandsFor common settings asdus self.now →
+            result.items ≡ frame_bytes common settings.goose send.now }
+        ensures long { length result.items ≤ 640 }
+    {
+        self.publisher.frame_bytes(send)
     }
 }
 
-/// What holds after a step of the front. A sample set that isn't taken changes nothing.
-fn facts_after<L: Ledger>(
-    k0: Cx,
-    zone: Option<MhoZone>,
-    before: &Facts,
-    step: &Step,
-    steps: &mut Steps<L>,
-) -> Facts
-    requires k0 { IsBelow k0 4001 }
-    requires reach { ForSome zone (λ zone. IsBelow zone.reach (2 ^ 20)) }
-    requires phasors { ForSome step.now.phasors (λ phasors. All (λ p. IsBelow p (2 ^ 30 + 1)) phasors) }
-    ensures facts { result ≡ facts_after_step k0 zone before.now step.now.sample step.now.phasors }
-    ensures cost { steps.new ≤ steps.old + 1 }
+/// What is measured at a ready sample.
+fn measured_of(phasors: &Option<[Cx; 8]>) -> Option<Measured>
+    requires { ForSome phasors.now (λ ps. All (λ p. IsBelow p (2 ^ 30 + 1)) ps) }
+    ensures value { result ≡ option_map measured phasors.now }
+    ensures size { ForSome result IsMeasured }
 {
-    if step.sample.is_none() {
-        return *before;
-    }
-    let inside = is_inside(k0, zone, step.phasors, steps);
-    let may_trip = match zone {
-        Some(zone) => zone.trip,
-        None => false,
-    };
-    Facts {
-        ready: step.phasors.is_some(),
-        inside,
-        operates: inside,
-        trip: (inside && may_trip) || before.trip,
-    }
-}
-
-/// The moment of the last taken sample.
-fn moment(common: &Common, last: Option<u64>) -> Option<At>
-    requires { 1 < common.now.rate }
-    ensures at { result ≡ option_map (time_of common.now) last }
-    ensures printable { IsPrintableAt result }
-{
-    match last {
-        Some(number) => Some(at_of(common, number)),
+    match phasors {
+        Some(phasors) => Some(measure(phasors)),
         None => None,
     }
-}
-
-fn copy_of(name: &[u8]) -> ArrayVec<u8, 16>
-    requires { length name.now ≤ 16 }
-    ensures { result.items ≡ name.now }
-{
-    let mut copy = ArrayVec::new();
-    let _ = copy.try_extend_from_slice(name);
-    copy
 }
 
 #[cfg(test)]
@@ -179,33 +263,44 @@ mod tests {
     use crate::tests::{common, settings};
     use std::test::Fail;
 
-    // Of a line's fields the front alone keeps samples.
+    // Of a line's fields the front's ring alone keeps samples, and the memory voltages.
     #[test]
     fn fields_are_all(rt: HostRuntime) -> Result<(), Fail> {
         let line = Line::new(rt.alloc(), &common(), &settings(None))?;
         let Line {
             common,
-            name,
-            k0,
-            zone,
+            settings,
             front,
+            memory,
+            swing,
+            fuse,
+            timers,
+            trip,
+            publisher,
             shown,
         } = &line;
         let _: &Common = common;
-        let _: &ArrayVec<u8, 16> = name;
-        let _: &Cx = k0;
-        let _: &Option<MhoZone> = zone;
+        let _: &LineSettings = settings;
         let _: &Front = front;
-        let Facts {
+        let _: &MemoryVolt = memory;
+        let _: &Option<Swing> = swing;
+        let _: &Option<Fuse> = fuse;
+        let _: &Timers = timers;
+        let _: &Trip = trip;
+        let _: &Publisher = publisher;
+        let Shown {
             ready,
+            swing,
+            fuse,
             inside,
-            operates,
-            trip,
+            operate,
         } = shown;
-        assert_eq!(rt;
-            (*ready, *inside, *operates, *trip),
-            (false, false, false, false)
-        );
+        let _: &bool = ready;
+        let _: &bool = swing;
+        let _: &bool = fuse;
+        let _: &[u8; 5] = inside;
+        let _: &[u8; 5] = operate;
+        assert_eq!(rt; *shown, Shown::new());
         Ok(())
     }
 }

@@ -1,13 +1,11 @@
 //! Rows of sample sets with the events that they bring.
-ghost use Rattle.std.specs.Prelude.{◌≡◌, ◌<◌, ◌≤◌, length, IfSome};
+ghost use Rattle.std.specs.Prelude.{◌≡◌, ◌<◌, IfSome};
 ghost use Rattle.relay_settings.specs.Ranges.{IsCommon, IsGoose, IsLine, IsMimic};
-ghost use Rattle.relay_settings.specs.Settings.{plain_line};
-ghost use Rattle.line_relay.specs.Zones.{IsBuilt};
 
 use super::*;
 use arrayvec::ArrayVec;
 use event_record::{Event, What, at_of};
-use relay_num::{Steps, open_steps};
+use relay_num::{Steps, copy_of, open_steps};
 use relay_settings::{Common, GooseSettings, LineSettings, Mimic};
 use std::alloc::{AllocError, Global};
 use std::marker::Brand;
@@ -18,15 +16,6 @@ use sv_frame::Asdu;
 
 /// Eight values of 0 without a quality bit.
 const GOOD: [u8; 64] = [0; 64];
-
-fn text<const MOST: usize>(bytes: &[u8]) -> ArrayVec<u8, MOST>
-    requires { length bytes.now ≤ MOST }
-    ensures { result.items ≡ bytes.now }
-{
-    let mut copy = ArrayVec::new();
-    let _ = copy.try_extend_from_slice(bytes);
-    copy
-}
 
 pub(crate) fn common() -> Common
     ensures ranges { IsCommon result }
@@ -43,12 +32,11 @@ pub(crate) fn common() -> Common
 
 pub(crate) fn settings(mimic: Option<Mimic>) -> LineSettings
     requires { IfSome mimic IsMimic }
-    ensures range { IsLine result }
-    ensures built { IsBuilt (plain_line result) }
+    ensures { IsLine result }
 {
     LineSettings {
-        name: text(b"L1"),
-        sv_id: text(b"MU01"),
+        name: copy_of(b"L1"),
+        sv_id: copy_of(b"MU01"),
         conf_rev: 1,
         quality_mask: 3,
         synch_min: 0,
@@ -82,9 +70,9 @@ fn goose() -> GooseSettings
         appid: 1,
         vlan_priority: 4,
         vlan_id: 0,
-        gocb_ref: text(b"P1/LLN0$GO$G1"),
-        dat_set: text(b"P1/LLN0$DS1"),
-        go_id: text(b"G1"),
+        gocb_ref: copy_of(b"P1/LLN0$GO$G1"),
+        dat_set: copy_of(b"P1/LLN0$DS1"),
+        go_id: copy_of(b"G1"),
         conf_rev: 1,
     }
 }

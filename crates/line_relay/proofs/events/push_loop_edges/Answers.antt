@@ -1,0 +1,31 @@
+use Rattle.std.proofs.Common.{◌≡◌, ap₂, arith}
+use Rattle.std.specs.Option.{option_map}
+use Rattle.event_record.specs.Time.{time_of}
+use Rattle.event_record.specs.declared.event.What.TheVariants.{Entered, Left}
+use Rattle.loop_impedance.specs.Masks.{has_bit}
+use Rattle.line_relay.specs.Events.{edge, loop_edges}
+use Rattle.line_relay.proofs.EventLemmas.{told_start, told_next, told_end}
+use Rattle.line_relay.proofs.events.push_loop_edges.Goals as goal
+
+pub loop-lp-init : goal.loop-lp-init
+loop-lp-init c = record {
+  told = told_start (option_map (time_of c.args.common.now) c.args.last) (λ lp. edge (Entered c.args.zone lp) (Left c.args.zone lp) (has_bit lp c.args.before) (has_bit lp c.args.now)) c.args.events.now.items;
+  few = omega arith;
+}
+
+pub loop-lp-preserved : goal.loop-lp-preserved
+loop-lp-preserved c = record {
+  told = told_next (option_map (time_of c.args.common.now) c.args.last) c.loop-lp.lp (λ lp. edge (Entered c.args.zone lp) (Left c.args.zone lp) (has_bit lp c.args.before) (has_bit lp c.args.now))
+      c.args.events.now.items c.loop-lp.events.items c.push_edge.new.events.items
+      (edge (Entered c.args.zone c.loop-lp.lp) (Left c.args.zone c.loop-lp.lp) c.has_bit-was.result c.has_bit-is.result)
+      c.loop-lp.invariant.told c.push_edge.ensures.events
+      (ap₂ (λ was is. edge (Entered c.args.zone c.loop-lp.lp) (Left c.args.zone c.loop-lp.lp) was is) c.has_bit-was.ensures c.has_bit-is.ensures);
+  few = omega (arith, c.push_edge.ensures.few, c.loop-lp.invariant.few);
+}
+
+pub returns-clause-events : goal.returns-clause-events
+unfolding loop_edges
+returns-clause-events c =
+    let end : c.loop-lp.lp ≡ 6 = omega arith in
+    told_end (option_map (time_of c.args.common.now) c.args.last) c.loop-lp.lp 6 (λ lp. edge (Entered c.args.zone lp) (Left c.args.zone lp) (has_bit lp c.args.before) (has_bit lp c.args.now))
+    c.args.events.now.items c.loop-lp.events.items c.loop-lp.invariant.told end
