@@ -1,11 +1,11 @@
 -- Loops over what is written and heard.
 use Rattle.std.proofs.Common.{◌≡◌, ℕ, ◌+◌, ◌≤◌, ◌<◌, true, false, List, [], ◌∷◌, ◌++◌, length, map, take, drop, reverse, get_or, refl, sym, ◌∙◌, ap, subst, append-nil}
-use Rattle.std.specs.Prelude.{Ok, Err, Result, None, OnOk}
+use Rattle.std.specs.Prelude.{Ok, Err, Result, Option, None, Some, OnOk}
 use Rattle.std.proofs.lemmas.List.{take_more, take_all, drop_more, take-append-drop, map-append}
 use Rattle.sample_windows.specs.Windows.{in_order}
 use Rattle.sample_windows.proofs.WindowLemmas.{past_next}
 use Rattle.room_io.specs.Room.{RoomState}
-use Rattle.room_io.specs.declared.room.Slot.TheVariants.{Log}
+use Rattle.room_io.specs.declared.room.Slot.TheVariants.{Goose, Log}
 use Rattle.sv_frame.specs.Asdu.{PlainAsdu}
 use Rattle.sv_frame.specs.Frame.{Sv, other, bad, pdu}
 use Rattle.sv_frame.specs.declared.Reason.{Reason}
@@ -14,9 +14,14 @@ use Rattle.relay_settings.specs.declared.types.Common.{Common}
 use Rattle.event_record.specs.declared.event.Event.{Event}
 use Rattle.event_record.specs.declared.event.Event.TheVariants.{Malformed}
 use Rattle.event_record.specs.Line.{line_text}
-use Rattle.line_relay.specs.Lines.{StandsFor}
+use Rattle.event_record.specs.Time.{time_of}
+use Rattle.event_record.specs.declared.time.At.{At}
+use Rattle.goose_publish.specs.declared.points.Send.{Send}
+use Rattle.goose_publish.specs.Frame.{frame_bytes}
+use Rattle.line_relay.specs.Bursts.{PlainBurst}
+use Rattle.line_relay.specs.KeptLine.{StandsFor}
 use Rattle.line_relay.specs.declared.line.Line.{Line}
-use Rattle.relay_tool.specs.Output.{Item, event_item, owns, own, burst_items, heard_items, frame_items, sets_of}
+use Rattle.relay_tool.specs.Output.{Item, event_item, send_items, items_of, frame_record, owns, own, burst_items, heard_items, frame_items, sets_of}
 use Rattle.relay_tool.specs.Making.{Makes}
 use Rattle.relay_tool.specs.Alone.{alone, Hears}
 use Rattle.relay_tool.specs.declared.end.End.{End}
@@ -43,11 +48,31 @@ events-stopped f xs i d {a} {b} {c} {e} h p q =
 pub events-done : {X : Type 0} (f : X → Item) (xs : List X) (i : ℕ) {a b : RoomState} → length xs ≤ i → Makes (map f (take i xs)) a b (Ok tt) → Makes (map f xs) a b (Ok tt)
 events-done f xs i {a} {b} h p = subst (λ ys. Makes (map f ys) a b (Ok tt)) (take_all i xs h) p
 
--- the same events under the same name
-pub same-events : {name name' : List ℕ} {events events' : List Event} {a b : RoomState} {result : Result (Unit {0}) End} → name ≡ name' → events ≡ events' →
-    Makes (map (event_item name) events) a b result → Makes (map (event_item name') events') a b result
-same-events {name} {name'} {events} {events'} {a} {b} {result} p q made =
-    subst (λ n. Makes (map (event_item n) events') a b result) p (subst (λ es. Makes (map (event_item name) es) a b result) q made)
+-- ---- bursts
+
+-- the record of the frame that is sent was written
+pub send-made : (common : Common) (settings : PlainLine) (send : Send) (at : At) (frame bytes : List ℕ) {a b : RoomState} {result : Result (Unit {0}) End} →
+    at ≡ time_of common send.number → frame ≡ frame_bytes common settings.goose send → bytes ≡ frame_record at frame →
+    Makes (record { slot = Goose; line = Some settings.name; bytes = bytes } ∷ []) a b result → Makes (send_items common settings (Some send)) a b result
+send-made common settings send at frame bytes {a} {b} {result} moment framed text made =
+    subst (λ (xs : List ℕ). Makes (record { slot = Goose; line = Some settings.name; bytes = xs } ∷ []) a b result)
+    (text ∙ (ap (λ (x : At). frame_record x frame) moment ∙ ap (frame_record (time_of common send.number)) framed)) made
+
+-- the events of a burst were written, and then its frame
+pub burst-made : (common : Common) (settings : PlainLine) (name : List ℕ) (events : List Event) (send : Option Send) (told : PlainBurst) {a b c : RoomState} {result : Result (Unit {0}) End} →
+    name ≡ settings.name → (record { events = events; send = send } ≡ told) →
+    Makes (map (event_item name) events) a b (Ok tt) → Makes (send_items common settings send) b c result → Makes (items_of common settings told) a c result
+burst-made common settings name events send told {a} {b} {c} {result} named is made sent =
+    subst (λ (x : PlainBurst). Makes (items_of common settings x) a c result) is
+    (Makes-more (subst (λ n. Makes (map (event_item n) events) a b (Ok tt)) named made) sent)
+
+-- a line of an event failed
+pub burst-stopped : (common : Common) (settings : PlainLine) (name : List ℕ) (events : List Event) (send : Option Send) (told : PlainBurst) {a b : RoomState} {e : End} →
+    name ≡ settings.name → (record { events = events; send = send } ≡ told) →
+    Makes (map (event_item name) events) a b (Err e) → Makes (items_of common settings told) a b (Err e)
+burst-stopped common settings name events send told {a} {b} {e} named is made =
+    subst (λ (x : PlainBurst). Makes (items_of common settings x) a b (Err e)) is
+    (Makes-stop (send_items common settings send) (Makes-nothing a) (subst (λ n. Makes (map (event_item n) events) a b (Err e)) named made))
 
 -- ---- sample sets
 

@@ -1,5 +1,5 @@
 -- The scalar output, taken apart by records and by lines.
-use Rattle.std.proofs.Common.{◌≡◌, ℕ, suc, ◌+◌, Bool, true, false, List, [], ◌∷◌, ◌++◌, length, map, reverse, refl, sym, ◌∙◌, ap, ap₂, arith, append_assoc, append-nil, inl, inr}
+use Rattle.std.proofs.Common.{◌≡◌, ℕ, suc, ◌+◌, Bool, true, false, List, [], ◌∷◌, ◌++◌, Option, Some, None, length, map, reverse, refl, sym, ◌∙◌, ap, ap₂, arith, append_assoc, append-nil, inl, inr}
 use Rattle.std.specs.Prelude.{filter, if◌then◌else◌}
 use Rattle.std.specs.Str.{bytes_eq}
 use Rattle.std.proofs.lemmas.List.{reverse-append}
@@ -11,9 +11,10 @@ use Rattle.sv_frame.specs.Frame.{Sv, other, bad, pdu}
 use Rattle.sv_frame.specs.declared.Reason.{Reason}
 use Rattle.relay_settings.specs.Settings.{PlainLine, PlainSettings}
 use Rattle.relay_settings.specs.declared.types.Common.{Common}
-use Rattle.line_relay.specs.Bursts.{burst}
+use Rattle.line_relay.specs.Bursts.{PlainBurst, burst}
+use Rattle.goose_publish.specs.declared.points.Send.{Send}
 use Rattle.event_record.specs.declared.event.Event.{Event}
-use Rattle.relay_tool.specs.Output.{Item, event_item, malformed_item, owns, own, burst_items, told_by, heard_items, reading, sets_of, frame_items, heard, items_from, out}
+use Rattle.relay_tool.specs.Output.{Item, event_item, send_items, items_of, malformed_item, owns, own, burst_items, told_by, heard_items, reading, sets_of, frame_items, heard, items_from, out}
 use Rattle.relay_tool.specs.Parts.{is_of, part, sample_sets, IsNamedAlone, LinesAreApart, MalformedAddsItsLine}
 
 -- ---- by records
@@ -47,6 +48,24 @@ part-events name line (event ∷ events) = elim (cases_Bool (bytes_eq line name)
   | inr differ ↦ rw differ (rw differ at (part-events name line events))
 ]
 
+-- and so are its frames
+part-send : (common : Common) (name : List ℕ) (line : PlainLine) (send : Option Send) → part name (send_items common line send) ≡ (if bytes_eq line.name name then send_items common line send else [])
+part-send common name line None = elim (bytes_eq line.name name) as (λ (b : Bool). let none : List Item = [] in none ≡ (if b then [] else [])) [ true ↦ refl | false ↦ refl ]
+part-send common name line (Some send) = elim (cases_Bool (bytes_eq line.name name)) [
+  | inl same ↦ rw same refl
+  | inr differ ↦ rw differ refl
+]
+
+if-append : (b : Bool) (xs ys : List Item) → (if b then xs else []) ++ (if b then ys else []) ≡ (if b then xs ++ ys else [])
+if-append true xs ys = refl
+if-append false xs ys = refl
+
+part-burst : (common : Common) (name : List ℕ) (line : PlainLine) (burst : PlainBurst) → part name (items_of common line burst) ≡ (if bytes_eq line.name name then items_of common line burst else [])
+part-burst common name line burst =
+    part-append name (map (event_item line.name) burst.events) (send_items common line burst.send)
+    ∙ ap₂ (λ (xs ys : List Item). xs ++ ys) (part-events name line.name burst.events) (part-send common name line burst.send)
+    ∙ if-append (bytes_eq line.name name) (map (event_item line.name) burst.events) (send_items common line burst.send)
+
 part-if : (name : List ℕ) (b : Bool) (xs : List Item) → part name (if b then xs else []) ≡ (if b then part name xs else [])
 part-if name true xs = refl
 part-if name false xs = refl
@@ -62,7 +81,7 @@ part-told common name a older [] = refl
 part-told common name a older (line ∷ lines) =
     part-append name (if owns line a then burst_items common line (a ∷ own line older) else []) (told_by common a older lines)
     ∙ ap (λ (xs : List Item). xs ++ part name (told_by common a older lines)) (part-if name (owns line a) (burst_items common line (a ∷ own line older))
-    ∙ ap (λ (xs : List Item). if owns line a then xs else []) (part-events name line.name (burst common line (a ∷ own line older))))
+    ∙ ap (λ (xs : List Item). if owns line a then xs else []) (part-burst common name line (burst common line (a ∷ own line older))))
     ∙ elim (cases_Bool (bytes_eq line.name name)) [
       | inl same ↦ rw same (ap (λ (xs : List Item). (if owns line a then burst_items common line (a ∷ own line older) else []) ++ xs) (part-told common name a older lines))
       | inr differ ↦ rw (differ, if-none (owns line a)) (part-told common name a older lines)

@@ -12,7 +12,7 @@ use Rattle.sv_frame.specs.Asdu.{PlainAsdu}
 use Rattle.sv_frame.specs.Frame.{sv}
 use Rattle.relay_settings.specs.Settings.{PlainLine, PlainSettings}
 use Rattle.relay_settings.specs.declared.types.Common.{Common}
-use Rattle.line_relay.specs.Lines.{StandsFor}
+use Rattle.line_relay.specs.KeptLine.{StandsFor}
 use Rattle.line_relay.specs.declared.line.Line.{Line}
 use Rattle.relay_tool.specs.Endings.{Ending, done, usage, refused, not_capture, cut, damaged, too_long, fault, no_memory}
 use Rattle.relay_tool.specs.Output.{Item, own, reading, sets_of, frame_items, heard, items_from, out}

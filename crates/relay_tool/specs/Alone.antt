@@ -4,7 +4,7 @@ use Rattle.room_io.specs.Room.{RoomState}
 use Rattle.sv_frame.specs.Asdu.{PlainAsdu}
 use Rattle.relay_settings.specs.Settings.{PlainLine, PlainSettings}
 use Rattle.relay_settings.specs.declared.types.Common.{Common}
-use Rattle.line_relay.specs.Lines.{StandsFor}
+use Rattle.line_relay.specs.KeptLine.{StandsFor}
 use Rattle.line_relay.specs.declared.line.Line.{Line}
 use Rattle.room_io.specs.declared.room.Slot.TheVariants as slots
 use Rattle.capture_feed.specs.declared.stop.FeedStop.{FeedStop}

@@ -11,9 +11,14 @@ use Rattle.relay_settings.specs.declared.types.Common.{Common}
 use Rattle.event_record.specs.declared.event.Event.{Event}
 use Rattle.event_record.specs.declared.event.Event.TheVariants.{Malformed}
 use Rattle.event_record.specs.Line.{line_text}
-use Rattle.line_relay.specs.Bursts.{burst}
+use Rattle.event_record.specs.Time.{time_of}
+use Rattle.event_record.specs.declared.time.At.{At}
+use Rattle.goose_publish.specs.declared.points.Send.{Send}
+use Rattle.goose_publish.specs.Frame.{frame_bytes}
+use Rattle.capture_feed.specs.Written.{record_bytes}
+use Rattle.line_relay.specs.Bursts.{PlainBurst, burst}
 use Rattle.room_io.specs.declared.room.Slot.{Slot}
-use Rattle.room_io.specs.declared.room.Slot.TheVariants.{Log}
+use Rattle.room_io.specs.declared.room.Slot.TheVariants.{Goose, Log}
 
 -- one write of the output, and the name of the line whose part it is
 pub record Item : Type 0 where
@@ -35,9 +40,22 @@ owns line a = bytes_eq line.sv_id a.sv_id
 abbrev pub own : PlainLine → List PlainAsdu → List PlainAsdu
 own line asdus = filter (λ a. owns line a) asdus
 
+-- the record of a frame, at the moment of the sample at which it is sent
+abbrev pub frame_record : At → List ℕ → List ℕ
+frame_record at frame = record_bytes at.seconds at.nanos frame
+
+abbrev pub send_items : Common → PlainLine → Option Send → List Item
+send_items common line None = []
+send_items common line (Some send) =
+    record { slot = Goose; line = Some line.name; bytes = frame_record (time_of common send.number) (frame_bytes common line.goose send) } ∷ []
+
+-- what a line writes of a burst: a line of the log of each event, then the frame
+abbrev pub items_of : Common → PlainLine → PlainBurst → List Item
+items_of common line burst = map (event_item line.name) burst.events ++ send_items common line burst.send
+
 -- what a line writes of the newest of its own sample sets
 abbrev pub burst_items : Common → PlainLine → List PlainAsdu → List Item
-burst_items common line asdus = map (λ event. event_item line.name event) (burst common line asdus)
+burst_items common line asdus = items_of common line (burst common line asdus)
 
 -- what a line alone would write of its own sample sets, here the oldest first
 abbrev pub solo : Common → PlainLine → List PlainAsdu → List Item

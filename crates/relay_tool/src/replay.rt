@@ -114,11 +114,5 @@ pub fn replay<R: Room>(alloc: Global, files: &Files<'_>, room: &mut R) -> End
         Ok(()) => {}
         Err(end) => return end,
     }
-    treat_counted::<R, Brand>(
-        &mut feed,
-        one.sv_id.as_slice(),
-        &mut line,
-        room,
-        Blank::new(1),
-    )
+    treat_counted::<R, Brand>(&mut feed, &mut line, room, Blank::new(1))
 }
