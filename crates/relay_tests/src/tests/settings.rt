@@ -41,8 +41,8 @@ swing_block = false
 load_block = false
 ";
 
-/// The same with a delay, the other way, of the other shape, and with a second zone.
-const LATE: &str = "go_id = \"G1\"
+/// The same with a delay.
+pub const LATE: &str = "go_id = \"G1\"
 conf_rev = 1
 
 [[line.zone]]
@@ -56,64 +56,40 @@ swing_block = false
 load_block = false
 ";
 
-const REVERSE: &str = "go_id = \"G1\"
+/// The end of the settings with a second line.
+const TWO_LINES: &str = "go_id = \"G1\"
 conf_rev = 1
 
-[[line.zone]]
-shape = \"mho\"
-dir = \"reverse\"
-reach_r = 0
-reach_x = 12500
-delay_ms = 0
-trip = true
-swing_block = false
-load_block = false
-";
-
-const QUAD: &str = "go_id = \"G1\"
+[[line]]
+name = \"L2\"
+sv_id = \"MU02\"
 conf_rev = 1
+line_r = 0
+line_x = 15000
+k0_re = 600
+k0_im = 0
+i_min = 200000
+i0_min = 100000
+dir_i2 = 100000
+mem_u = 1000000
+mem_ms = 200
+trip_min_ms = 100
+open_i = 50000
+open_ms = 20
 
-[[line.zone]]
-shape = \"quad\"
-dir = \"forward\"
-reach_r = 9000
-reach_x = 12500
-tilt = 0
-slope = 0
-back_x = 0
-delay_ms = 0
-trip = true
-swing_block = false
-load_block = false
-";
-
-const TWO_ZONES: &str = "go_id = \"G1\"
+[line.goose]
+dst = \"01-0C-CD-01-00-02\"
+src = \"02-00-00-00-00-02\"
+appid = 2
+gocb_ref = \"P1/LLN0$GO$G2\"
+dat_set = \"P1/LLN0$DS1\"
+go_id = \"G1\"
 conf_rev = 1
-
-[[line.zone]]
-shape = \"mho\"
-dir = \"forward\"
-reach_r = 0
-reach_x = 12500
-delay_ms = 0
-trip = true
-swing_block = false
-load_block = false
-
-[[line.zone]]
-shape = \"mho\"
-dir = \"forward\"
-reach_r = 0
-reach_x = 20000
-delay_ms = 400
-trip = true
-swing_block = false
-load_block = false
 ";
 
 const USAGE: &str = "usage: relay replay SETTINGS CAPTURE GOOSE LOG or check SETTINGS\n";
 
-static ROWS: [Row; 18] = [
+static ROWS: [Row; 14] = [
     (&CHECK, "", "", 0, "ok 1 lines 0 zones\n", ""),
     (&CHECK, GO_ID, ZONE, 0, "ok 1 lines 1 zones\n", ""),
     (
@@ -171,46 +147,10 @@ i2_share = 200
     (
         &REPLAY,
         GO_ID,
-        LATE,
+        TWO_LINES,
         2,
         "",
-        "settings refused 13 line.1.zone.1.delay_ms\n",
-    ),
-    (
-        &REPLAY,
-        GO_ID,
-        REVERSE,
-        2,
-        "",
-        "settings refused 13 line.1.zone.1.dir\n",
-    ),
-    (
-        &REPLAY,
-        GO_ID,
-        QUAD,
-        2,
-        "",
-        "settings refused 13 line.1.zone.1.shape\n",
-    ),
-    (
-        &REPLAY,
-        GO_ID,
-        TWO_ZONES,
-        2,
-        "",
-        "settings refused 13 line.1.zone\n",
-    ),
-    (
-        &REPLAY,
-        "[line.goose]",
-        "[line.load]
-r = 20000
-slope = 500
-
-[line.goose]",
-        2,
-        "",
-        "settings refused 13 line.1.load\n",
+        "settings refused 13 line\n",
     ),
     (&[], "", "", 1, "", USAGE),
     (&["check"], "", "", 1, "", USAGE),

@@ -1,7 +1,7 @@
 //! Sampled values of a line before, in and after a fault, at 96 samples a cycle.
 ghost use Rattle.std.specs.Prelude.{◌≡◌, ◌<◌};
 
-use super::inputs::put_frame;
+use super::inputs::{Form, head_of, put_record, put_set};
 use relay_num::wave;
 use std::alloc::{AllocError, Global};
 
@@ -12,6 +12,10 @@ pub enum Signal {
     Healthy,
     /// Phase A to ground at half of the reach: UA falls to a half, and IA lags it by a quarter of a cycle.
     Fault,
+    /// All three phases at the line's beginning: the fault's current in each, and no voltage.
+    Close,
+    /// The fault's current, and no voltage.
+    Dead,
     /// The six used channels at the greatest value.
     Greatest,
     /// As in the fault, but UB has a bit of bad quality.
@@ -31,8 +35,11 @@ fn cosine(scale: i32, counter: u16, later: u32) -> i32
     scale.wrapping_mul(cosine as i32)
 }
 
-fn sine(scale: i32, counter: u16) -> i32 {
-    let (_, sine) = wave(96, u32::from(counter) % 96);
+/// `scale` times the sine at this counter, so many samples later.
+fn sine(scale: i32, counter: u16, later: u32) -> i32
+    requires { later < 96 }
+{
+    let (_, sine) = wave(96, (u32::from(counter) + later) % 96);
     scale.wrapping_mul(sine as i32)
 }
 
@@ -42,27 +49,32 @@ fn noise(counter: u16, channel: u32) -> Value {
     (((word >> 5) as i32) - (1 << 26), 0)
 }
 
-/// IA, IB, IC, IN, UA, UB, UC and UN with their quality words. IN is marked as computed.
-fn channels(signal: Signal, counter: u16) -> [Value; 8] {
-    let (ia, ua) = match signal {
-        Signal::Healthy => (0, cosine(500, counter, 0)),
-        _ => (sine(250, counter), cosine(250, counter, 0)),
-    };
+/// IA, IB, IC, UA, UB and UC of a line whose channels follow the sine table.
+fn six(signal: Signal, counter: u16) -> [i32; 6] {
     let ub = cosine(500, counter, 64);
     let uc = cosine(500, counter, 32);
-    let mark = if signal == Signal::BadQuality { 1 } else { 0 };
-    let most = 268_435_455;
+    let ia = sine(250, counter, 0);
     match signal {
-        Signal::Greatest => [
-            (most, 0),
-            (most, 0),
-            (most, 0),
-            (0, 0x2000),
-            (most, 0),
-            (most, 0),
-            (most, 0),
-            (0, 0),
-        ],
+        Signal::Healthy => [0, 0, 0, cosine(500, counter, 0), ub, uc],
+        Signal::Close => [ia, sine(250, counter, 64), sine(250, counter, 32), 0, 0, 0],
+        Signal::Dead => [ia, 0, 0, 0, 0, 0],
+        _ => [ia, 0, 0, cosine(250, counter, 0), ub, uc],
+    }
+}
+
+/// IA, IB, IC, IN, UA, UB, UC and UN with their quality words. IN is marked as computed.
+fn channels(signal: Signal, counter: u16) -> [Value; 8] {
+    let most = 268_435_455;
+    let [ia, ib, ic, ua, ub, uc] = match signal {
+        Signal::Greatest => [most; 6],
+        _ => six(signal, counter),
+    };
+    let mark = if signal == Signal::BadQuality { 1 } else { 0 };
+    let residual = match signal {
+        Signal::Greatest => 0,
+        _ => ia.wrapping_add(ib).wrapping_add(ic),
+    };
+    match signal {
         Signal::Noise => [
             noise(counter, 0),
             noise(counter, 1),
@@ -75,9 +87,9 @@ fn channels(signal: Signal, counter: u16) -> [Value; 8] {
         ],
         _ => [
             (ia, 0),
-            (0, 0),
-            (0, 0),
-            (ia, 0x2000),
+            (ib, 0),
+            (ic, 0),
+            (residual, 0x2000),
             (ua, 0),
             (ub, mark),
             (uc, 0),
@@ -99,14 +111,39 @@ pub fn data_of(alloc: Global, signal: Signal, counter: u16) -> Result<Vec<u8>, A
 /// The counters from the first on to before the second, with this signal.
 pub type Span = (u16, u16, Signal);
 
-/// A capture of frames with one sample set each, in these spans.
-pub fn signals_of(alloc: Global, header: &[u8], spans: &[Span]) -> Result<Vec<u8>, AllocError> {
+/// Adds the record of a frame of this form with the counters from the first on to a capture with the lowest
+/// byte first.
+fn put_frame(
+    alloc: Global,
+    capture: &mut Vec<u8>,
+    form: &Form,
+    signal: Signal,
+    first: u16,
+) -> Result<(), AllocError> {
+    let mut frame = head_of(alloc, form)?;
+    for place in 0..form.0 {
+        let counter = first.wrapping_add(place);
+        let data = data_of(alloc, signal, counter)?;
+        put_set(&mut frame, counter, &data)?;
+    }
+    let captured = u32::try_from(frame.len()).unwrap_or(0);
+    put_record(capture, false, &frame, captured)
+}
+
+/// A capture of frames of this form, in these spans.
+pub fn signals_of(
+    alloc: Global,
+    header: &[u8],
+    form: &Form,
+    spans: &[Span],
+) -> Result<Vec<u8>, AllocError> {
     let mut capture = Vec::new(alloc);
     capture.extend_from_slice(header)?;
     for (from, to, signal) in spans {
         for counter in *from..*to {
-            let data = data_of(alloc, *signal, counter)?;
-            put_frame(alloc, &mut capture, counter, &data)?;
+            if counter.checked_rem(form.0) == Some(0) {
+                put_frame(alloc, &mut capture, form, *signal, counter)?;
+            }
         }
     }
     Ok(capture)

@@ -1,8 +1,8 @@
 //! The sample frame alone, and what stands after each failing call.
 ghost use Rattle.std.specs.Prelude.{◌≡◌};
 
-use super::captures::{FIRST, GOOSE, LITTLE_MICROS};
-use super::inputs::{Part, SETTINGS, SINGLE, capture_of, replay_words, room_of};
+use super::captures::{FIRST, LITTLE_MICROS, ONE_FRAME};
+use super::inputs::{Part, SETTINGS, SINGLE, capture_of, replay_words, room_of, room_with};
 use relay_tool::relay;
 use room_io::Slot;
 use std::test::Fail;
@@ -18,7 +18,7 @@ fn always_out_of_memory_is_no_answer_to_a_sample(rt: HostRuntime) -> Result<(), 
     assert_eq!(rt; status, 0);
     assert_eq!(rt; room.written(Slot::Log), FIRST.as_bytes());
     assert_eq!(rt; room.written(Slot::Log).len(), 42);
-    assert_eq!(rt; room.written(Slot::Goose), GOOSE.as_slice());
+    assert_eq!(rt; room.written(Slot::Goose), ONE_FRAME.as_slice());
     Ok(())
 }
 
@@ -42,10 +42,10 @@ static CASES: [Case; 4] = [
     (
         Slot::Capture,
         "fault capture\n",
-        &[(0, 0), (0, 0), (24, 85)],
+        &[(0, 0), (0, 0), (168, 85)],
     ),
-    (Slot::Goose, "fault goose\n", &[(0, 0), (0, 0)]),
-    (Slot::Log, "fault log\n", &[(0, 0), (24, 0), (24, 42)]),
+    (Slot::Goose, "fault goose\n", &[(0, 0), (0, 0), (24, 42)]),
+    (Slot::Log, "fault log\n", &[(0, 0), (24, 0), (168, 42)]),
 ];
 
 #[test]
@@ -66,7 +66,7 @@ fn each_failing_call_ends_the_run(rt: HostRuntime) -> Result<(), Fail> {
             );
             assert_eq!(rt;
                 Some(room.written(Slot::Goose)),
-                GOOSE.get(..*goose),
+                ONE_FRAME.get(..*goose),
                 "{slot:?} {call}"
             );
             assert_eq!(rt;
@@ -80,6 +80,35 @@ fn each_failing_call_ends_the_run(rt: HostRuntime) -> Result<(), Fail> {
         room.fail(*slot, call)?;
         assert_eq!(rt; relay(rt.alloc(), &words, &mut room), 0, "{slot:?}");
         assert_eq!(rt; room.written(Slot::Log), LOG.as_bytes(), "{slot:?}");
+    }
+    Ok(())
+}
+
+/// The space of each output, the note, and how much of the GOOSE file and of the log stands: a write that
+/// finds too little space fills it, and the log's line is written before the frame of its sample.
+static SPACES: [(usize, &'static str, usize, usize); 2] = [
+    (100, "fault goose\n", 100, 42),
+    (40, "fault log\n", 24, 40),
+];
+
+#[test]
+fn outputs_without_space_hold_what_fits(rt: HostRuntime) -> Result<(), Fail> {
+    let words = replay_words(rt.alloc())?;
+    let capture = capture_of(rt.alloc(), &LITTLE_MICROS, &TWO)?;
+    for (space, note, goose, log) in &SPACES {
+        let mut room = room_with(rt.alloc(), *space, SETTINGS.as_bytes(), &capture)?;
+        assert_eq!(rt; relay(rt.alloc(), &words, &mut room), 6, "{space}");
+        assert_eq!(rt; room.written(Slot::Note), note.as_bytes(), "{space}");
+        assert_eq!(rt;
+            Some(room.written(Slot::Goose)),
+            ONE_FRAME.get(..*goose),
+            "{space}"
+        );
+        assert_eq!(rt;
+            Some(room.written(Slot::Log)),
+            FIRST.as_bytes().get(..*log),
+            "{space}"
+        );
     }
     Ok(())
 }

@@ -49,7 +49,7 @@ pub fn settings_with(alloc: Global, old: &str, new: &str) -> Result<String, Allo
 /// A frame of 116 bytes with one sample set: svID MU01, smpCnt 0, confRev 1, smpSynch 2, and eight
 /// zeros. A line is ready by the counters and by how good the values are, so zeros serve as well as the
 /// voltages of a healthy line.
-const SAMPLE_FRAME: [u8; 116] = [
+pub const SAMPLE_FRAME: [u8; 116] = [
     0x01, 0x0c, 0xcd, 0x04, 0x00, 0x01, 0x02, 0x00, 0x00, 0x00, 0x00, 0x01, 0x88, 0xba, 0x40, 0x00,
     0x00, 0x66, 0x00, 0x00, 0x00, 0x00, 0x60, 0x5c, 0x80, 0x01, 0x01, 0xa2, 0x57, 0x30, 0x55, 0x80,
     0x04, 0x4d, 0x55, 0x30, 0x31, 0x82, 0x02, 0x00, 0x00, 0x83, 0x04, 0x00, 0x00, 0x00, 0x01, 0x85,
@@ -104,24 +104,36 @@ pub const SEVENTEEN: Form = (
 /// each, and the captured length, to which each is cut or padded with zeros.
 pub type Part = (u16, u16, &'static Form, &'static [(usize, u8)], u32);
 
-/// A frame with this counter and those that follow it.
-fn frame_of(alloc: Global, form: &Form, first: u16) -> Result<Vec<u8>, AllocError> {
-    let (sets, tag, words) = *form;
+/// What stands before the sample sets of a frame of this form.
+pub fn head_of(alloc: Global, form: &Form) -> Result<Vec<u8>, AllocError> {
+    let (_, tag, words) = *form;
     let mut frame = Vec::new(alloc);
     frame.extend_from_slice(&SAMPLE_FRAME[..12])?;
     frame.extend_from_slice(tag)?;
     frame.extend_from_slice(&SAMPLE_FRAME[12..16])?;
     frame.extend_from_slice(words)?;
-    for place in 0..sets {
-        frame.extend_from_slice(&SAMPLE_FRAME[29..39])?;
-        frame.extend_from_slice(&first.wrapping_add(place).to_be_bytes())?;
-        frame.extend_from_slice(&SAMPLE_FRAME[41..])?;
+    Ok(frame)
+}
+
+/// Adds a sample set with this counter and these 64 bytes of data to a frame.
+pub fn put_set(frame: &mut Vec<u8>, counter: u16, data: &[u8]) -> Result<(), AllocError> {
+    frame.extend_from_slice(&SAMPLE_FRAME[29..39])?;
+    frame.extend_from_slice(&counter.to_be_bytes())?;
+    frame.extend_from_slice(&SAMPLE_FRAME[41..52])?;
+    frame.extend_from_slice(data)
+}
+
+/// A frame with this counter and those that follow it.
+fn frame_of(alloc: Global, form: &Form, first: u16) -> Result<Vec<u8>, AllocError> {
+    let mut frame = head_of(alloc, form)?;
+    for place in 0..form.0 {
+        put_set(&mut frame, first.wrapping_add(place), &SAMPLE_FRAME[52..])?;
     }
     Ok(frame)
 }
 
 /// Adds a record to the capture, its numbers in this byte order.
-fn put_record(
+pub fn put_record(
     capture: &mut Vec<u8>,
     is_big: bool,
     bytes: &[u8],
@@ -136,21 +148,6 @@ fn put_record(
     capture.extend_from_slice(&number)?;
     capture.extend_from_slice(&number)?;
     capture.extend_from_slice(bytes)
-}
-
-/// Adds the record of a frame with this one sample set to a capture with the lowest byte first.
-pub fn put_frame(
-    alloc: Global,
-    capture: &mut Vec<u8>,
-    counter: u16,
-    data: &[u8],
-) -> Result<(), AllocError> {
-    let mut frame = Vec::new(alloc);
-    frame.extend_from_slice(&SAMPLE_FRAME[..39])?;
-    frame.extend_from_slice(&counter.to_be_bytes())?;
-    frame.extend_from_slice(&SAMPLE_FRAME[41..52])?;
-    frame.extend_from_slice(data)?;
-    put_record(capture, false, &frame, 116)
 }
 
 /// A capture of these records, its numbers in the byte order of its header.
@@ -179,14 +176,26 @@ pub fn capture_of(alloc: Global, header: &[u8], parts: &[Part]) -> Result<Vec<u8
     Ok(capture)
 }
 
-/// A room with these inputs, in which nothing was opened.
-pub fn room_of(alloc: Global, settings: &[u8], capture: &[u8]) -> Result<MemRoom, NoMemory>
+/// A room with these inputs and this space for each output, in which nothing was opened.
+pub fn room_with(
+    alloc: Global,
+    space: usize,
+    settings: &[u8],
+    capture: &[u8],
+) -> Result<MemRoom, NoMemory>
     ensures { IfOk result (λ room. IsUnused (mem_state room)) }
 {
-    let mut room = MemRoom::new(alloc, 4000)?;
+    let mut room = MemRoom::new(alloc, space)?;
     room.put("s.toml", settings)?;
     room.put("c.pcap", capture)?;
     Ok(room)
+}
+
+/// A room with these inputs, and space for what the rows write.
+pub fn room_of(alloc: Global, settings: &[u8], capture: &[u8]) -> Result<MemRoom, NoMemory>
+    ensures { IfOk result (λ room. IsUnused (mem_state room)) }
+{
+    room_with(alloc, 4000, settings, capture)
 }
 
 pub fn words_of(alloc: Global, words: &[&str]) -> Result<Vec<String>, AllocError> {

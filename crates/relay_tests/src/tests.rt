@@ -1,9 +1,11 @@
 //! Rows of the whole relay, one file a subject, over the inputs of the first.
+mod blocks;
 mod captures;
 mod failing;
 mod inputs;
 mod numbers;
 mod plain;
+mod sent;
 mod settings;
 mod signals;
 mod zones;

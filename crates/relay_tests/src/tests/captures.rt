@@ -6,7 +6,7 @@ use super::inputs::{
     settings_with,
 };
 use relay_tool::relay;
-use room_io::Slot;
+use room_io::{MemRoom, Slot};
 use std::alloc::Global;
 use std::process::Abort;
 use std::test::Fail;
@@ -33,6 +33,22 @@ pub const GOOSE: [u8; 24] = [
     0x4d, 0x3c, 0xb2, 0xa1, 2, 0, 4, 0, 0, 0, 0, 0, 0, 0, 0, 0, 0xff, 0xff, 0, 0, 1, 0, 0, 0,
 ];
 
+/// What a GOOSE file with the frame of the first sample holds: nothing is known yet, and all qualities are
+/// invalid.
+pub const ONE_FRAME: [u8; 168] = [
+    0x4d, 0x3c, 0xb2, 0xa1, 0x02, 0x00, 0x04, 0x00, 0x00, 0x00, 0x00, 0x00, 0x00, 0x00, 0x00, 0x00,
+    0xff, 0xff, 0x00, 0x00, 0x01, 0x00, 0x00, 0x00, 0x80, 0x00, 0x92, 0x65, 0x00, 0x00, 0x00, 0x00,
+    0x80, 0x00, 0x00, 0x00, 0x80, 0x00, 0x00, 0x00, 0x01, 0x0c, 0xcd, 0x01, 0x00, 0x01, 0x02, 0x00,
+    0x00, 0x00, 0x00, 0x02, 0x81, 0x00, 0x80, 0x00, 0x88, 0xb8, 0x00, 0x01, 0x00, 0x6e, 0x00, 0x00,
+    0x00, 0x00, 0x61, 0x64, 0x80, 0x0d, 0x50, 0x31, 0x2f, 0x4c, 0x4c, 0x4e, 0x30, 0x24, 0x47, 0x4f,
+    0x24, 0x47, 0x31, 0x81, 0x01, 0x0c, 0x82, 0x0b, 0x50, 0x31, 0x2f, 0x4c, 0x4c, 0x4e, 0x30, 0x24,
+    0x44, 0x53, 0x31, 0x83, 0x02, 0x47, 0x31, 0x84, 0x08, 0x65, 0x92, 0x00, 0x80, 0x00, 0x00, 0x00,
+    0x0a, 0x85, 0x01, 0x01, 0x86, 0x01, 0x00, 0x87, 0x01, 0x00, 0x88, 0x01, 0x01, 0x89, 0x01, 0x00,
+    0x8a, 0x01, 0x09, 0xab, 0x23, 0x83, 0x01, 0x00, 0x84, 0x03, 0x03, 0x40, 0x00, 0x83, 0x01, 0x00,
+    0x84, 0x03, 0x03, 0x40, 0x00, 0x83, 0x01, 0x00, 0x84, 0x03, 0x03, 0x40, 0x00, 0x83, 0x01, 0x00,
+    0x84, 0x03, 0x03, 0x40, 0x00, 0x86, 0x01, 0x00,
+];
+
 pub const FIRST: &str = "L1 2024-01-01T00:00:00.000000000Z 0 first\n";
 
 /// The type of Internet traffic.
@@ -41,29 +57,32 @@ const OTHER: [(usize, u8); 2] = [(12, 0x08), (13, 0x00)];
 /// The lengths of a sample set with 60 bytes of data, and of all around it.
 const SHORT: [(usize, u8); 5] = [(17, 0x62), (23, 0x58), (28, 0x53), (30, 0x51), (51, 0x3c)];
 
-/// Records, and the log that they give.
-type Row = (&'static [Part], &'static str);
+/// Records, the length of the GOOSE file and the log that they give.
+type Row = (&'static [Part], usize, &'static str);
 
 static ROWS: [Row; 16] = [
     // One sample, none, and one cycle less a sample.
-    (&[(0, 1, &SINGLE, &[], 116)], FIRST),
-    (&[], ""),
-    (&[(0, 95, &SINGLE, &[], 116)], FIRST),
+    (&[(0, 1, &SINGLE, &[], 116)], 168, FIRST),
+    (&[], 24, ""),
+    (&[(0, 95, &SINGLE, &[], 116)], 456, FIRST),
     // A whole cycle, in frames of one, of two and of sixteen sample sets.
     (
         &[(0, 96, &SINGLE, &[], 116)],
+        600,
         "L1 2024-01-01T00:00:00.000000000Z 0 first
 L1 2024-01-01T00:00:00.019791666Z 95 ready
 ",
     ),
     (
         &[(0, 96, &PAIR, &[], 205)],
+        600,
         "L1 2024-01-01T00:00:00.000000000Z 0 first
 L1 2024-01-01T00:00:00.019791666Z 95 ready
 ",
     ),
     (
         &[(0, 96, &SIXTEEN, &[], 1425)],
+        600,
         "L1 2024-01-01T00:00:00.000000000Z 0 first
 L1 2024-01-01T00:00:00.019791666Z 95 ready
 ",
@@ -75,6 +94,7 @@ L1 2024-01-01T00:00:00.019791666Z 95 ready
             (200, 201, &SINGLE, &[(52, 0x10)], 116),
             (201, 300, &SINGLE, &[], 116),
         ],
+        1464,
         "L1 2024-01-01T00:00:00.000000000Z 0 first
 L1 2024-01-01T00:00:00.019791666Z 95 ready
 L1 2024-01-01T00:00:00.041666666Z 200 lost
@@ -90,6 +110,7 @@ L1 2024-01-01T00:00:00.061666666Z 296 ready
             (435, 436, &SINGLE, &[], 116),
             (4800, 4801, &SINGLE, &[], 116),
         ],
+        1321,
         "L1 2024-01-01T00:00:00.000000000Z 0 first
 L1 2024-01-01T00:00:00.019791666Z 95 ready
 L1 2024-01-01T00:00:00.104166666Z 500 repeat 500
@@ -106,6 +127,7 @@ L1 2024-01-01T00:00:01.090625000Z 5235 wild 4800
             (2, 3, &SINGLE, &[], 116),
             (4, 5, &SINGLE, &[], 116),
         ],
+        168,
         "L1 2024-01-01T00:00:00.000000000Z 0 first
 L1 2024-01-01T00:00:00.000416666Z 2 jump 1
 L1 2024-01-01T00:00:00.000833333Z 4 jump 1
@@ -114,15 +136,20 @@ L1 2024-01-01T00:00:00.000833333Z 4 jump 1
     // The counter begins anew with the next second.
     (
         &[(4752, 4800, &SINGLE, &[], 116), (0, 50, &SINGLE, &[], 116)],
+        600,
         "L1 2024-01-01T00:00:00.990000000Z 4752 first
 L1 2024-01-01T00:00:01.009791666Z 4847 ready
 ",
     ),
     // Another revision of the configuration, and 60 bytes of data.
-    (&[(0, 1, &SINGLE, &[(46, 7)], 116)], "L1 - - confrev 7\n"),
-    (&[(0, 1, &SINGLE, &SHORT, 112)], "L1 - - length 60\n"),
+    (
+        &[(0, 1, &SINGLE, &[(46, 7)], 116)],
+        24,
+        "L1 - - confrev 7\n",
+    ),
+    (&[(0, 1, &SINGLE, &SHORT, 112)], 24, "L1 - - length 60\n"),
     // A frame with a tag and padding.
-    (&[(0, 1, &TAGGED, &[], 130)], FIRST),
+    (&[(0, 1, &TAGGED, &[], 130)], 168, FIRST),
     // Frames that fail, each in its layer.
     (
         &[
@@ -134,6 +161,7 @@ L1 2024-01-01T00:00:01.009791666Z 4847 ready
             (0, 1, &SEVENTEEN, &[], 1512),
             (0, 1, &SINGLE, &[(41, 0x82)], 116),
         ],
+        24,
         "frame 1 malformed long
 frame 2 malformed length
 frame 3 malformed header
@@ -150,6 +178,7 @@ frame 7 malformed asdu
             (0, 1, &SINGLE, &[(36, 0x32)], 116),
             (0, 1, &SINGLE, &[], 100),
         ],
+        24,
         "frame 3 malformed length\n",
     ),
     // The longest record.
@@ -159,6 +188,7 @@ frame 7 malformed asdu
             (0, 1, &SINGLE, &OTHER, 262144),
             (1, 2, &SINGLE, &[], 116),
         ],
+        168,
         FIRST,
     ),
 ];
@@ -175,9 +205,25 @@ pub struct Outcome {
 pub const ONE_SAMPLE: Outcome = Outcome {
     status: 0,
     note: "",
-    goose: &GOOSE,
+    goose: &ONE_FRAME,
     log: FIRST,
 };
+
+/// Runs the relay on these inputs, with reads and writes in pieces: its status, and the room behind it.
+pub fn replayed(
+    alloc: Global,
+    settings: &[u8],
+    capture: &[u8],
+    most: usize,
+) -> Result<(u8, MemRoom), Fail>
+    requires { 0 < most }
+{
+    let words = replay_words(alloc)?;
+    let mut room = room_of(alloc, settings, capture)?;
+    room.pieces(most);
+    let status = relay(alloc, &words, &mut room);
+    Ok((status, room))
+}
 
 /// Runs the relay on these inputs, with reads and writes whole and in pieces.
 pub fn run_row(
@@ -187,11 +233,8 @@ pub fn run_row(
     capture: &[u8],
     want: &Outcome,
 ) -> Result<(), Fail> {
-    let words = replay_words(alloc)?;
     for most in [1, 7, 65537] {
-        let mut room = room_of(alloc, settings, capture)?;
-        room.pieces(most);
-        let status = relay(alloc, &words, &mut room);
+        let (status, room) = replayed(alloc, settings, capture, most)?;
         assert_eq!(rt;
             room.written(Slot::Log),
             want.log.as_bytes(),
@@ -208,12 +251,34 @@ pub fn run_row(
     Ok(())
 }
 
+/// Runs the relay on these inputs, with reads and writes whole and in pieces, to their end.
+pub fn run_whole(
+    rt: &impl Abort,
+    alloc: Global,
+    settings: &[u8],
+    capture: &[u8],
+    goose: usize,
+    log: &str,
+) -> Result<(), Fail> {
+    for most in [1, 7, 65537] {
+        let (status, room) = replayed(alloc, settings, capture, most)?;
+        assert_eq!(rt; room.written(Slot::Log), log.as_bytes(), "pieces of {most}");
+        assert_eq!(rt; room.written(Slot::Goose).len(), goose, "pieces of {most}");
+        assert_eq!(rt;
+            room.written(Slot::Note),
+            b"".as_slice(),
+            "pieces of {most}"
+        );
+        assert_eq!(rt; status, 0, "pieces of {most}");
+    }
+    Ok(())
+}
+
 #[test]
 fn captures_give_their_log(rt: HostRuntime) -> Result<(), Fail> {
-    for (parts, log) in &ROWS {
+    for (parts, goose, log) in &ROWS {
         let capture = capture_of(rt.alloc(), &LITTLE_MICROS, parts)?;
-        let want = Outcome { log, ..ONE_SAMPLE };
-        run_row(&rt, rt.alloc(), SETTINGS.as_bytes(), &capture, &want)?;
+        run_whole(&rt, rt.alloc(), SETTINGS.as_bytes(), &capture, *goose, log)?;
     }
     Ok(())
 }
@@ -246,7 +311,7 @@ static STOPS: [Stop; 7] = [
         Outcome {
             status: 4,
             note: "capture cut after 9 records\n",
-            goose: &GOOSE,
+            goose: &ONE_FRAME,
             log: FIRST,
         },
     ),
@@ -269,7 +334,7 @@ static STOPS: [Stop; 7] = [
         Outcome {
             status: 5,
             note: "capture damaged after 1 records length 262145\n",
-            goose: &GOOSE,
+            goose: &ONE_FRAME,
             log: FIRST,
         },
     ),
@@ -307,8 +372,7 @@ fn a_cycle_has_eighty_samples_at_other_rates(rt: HostRuntime) -> Result<(), Fail
     let capture = capture_of(rt.alloc(), &LITTLE_MICROS, &[(0, 80, &SINGLE, &[], 116)])?;
     for (rates, log) in &RATES {
         let settings = settings_with(rt.alloc(), "rate = 4800\nnominal = 50\n", rates)?;
-        let want = Outcome { log, ..ONE_SAMPLE };
-        run_row(&rt, rt.alloc(), settings.as_bytes(), &capture, &want)?;
+        run_whole(&rt, rt.alloc(), settings.as_bytes(), &capture, 600, log)?;
     }
     Ok(())
 }
