@@ -2,7 +2,7 @@
 
 ghost use Rattle.std.specs.Prelude.{◌≡◌, ◌<◌, ◌≤◌};
 
-use relay_settings::{Common, wide_samples_of};
+use relay_settings::Common;
 
 /// The least offset that isn't passed yet, and the step that leads to it.
 #[derive(Drop)]
@@ -67,11 +67,20 @@ impl Pace {
             samples common.rate (offset_ms common k) ≤ age → Passed common age self.new }
         ensures later { IsTrue result → 0 < age }
     {
-        let is_due = wide_samples_of(self.rate, self.next_ms) <= u128::from(age);
-        while wide_samples_of(self.rate, self.next_ms) <= u128::from(age) {
+        let is_due = self.is_within(age);
+        while self.is_within(age) {
             self.step_ms = self.heartbeat_ms.min(2 * self.step_ms);
             self.next_ms += u64::from(self.step_ms);
         }
         is_due
+    }
+
+    /// Whether the next offset falls at most `age` samples after the change. It is compared in thousandths of samples, so
+    /// that nothing is divided.
+    fn is_within(&self, age: u64) -> bool
+        requires { age < 2 ^ 61 }
+        ensures { result ≡ nat_le (samples self.now.rate self.now.next_ms) age }
+    {
+        u128::from(self.rate) * u128::from(self.next_ms) <= 1000 * u128::from(age)
     }
 }

@@ -196,3 +196,9 @@ nanos-below rate count rated h =
 pub time-printable : (common : Common) (last : Option ℕ) → 1 < common.rate → IsPrintableAt (option_map (time_of common) last)
 time-printable common None rated = tt
 time-printable common (Some number) rated = nanos-below common.rate (number % common.rate) rated (mod-lt number (omega arith))
+
+-- nothing is told where what was shown is shown again
+pub shown_changes-same : (before now : Shown) (trip : TripState) → trip.rose ≡ false → trip.fell ≡ false → before ≡ now → shown_changes before now trip ≡ []
+shown_changes-same before now trip rose fell same =
+    ap (λ (b : Shown). shown_changes b now trip) same
+    ∙ rw (edge-same Ready Lost now.ready, edge-same SwingOn SwingOff now.swing, edge-same FuseOn FuseOff now.fuse, zone_edges-same now.inside, zone_beginnings-same now.operate, rose, fell) refl

@@ -2,6 +2,7 @@ pub mod FilterLemmas
 pub mod CycleLemmas
 pub mod FrontLemmas
 pub mod LawLemmas
+pub mod FarBelowLemmas
 pub mod EventLemmas
 pub mod LoopLemmas
 pub mod InsideLemmas

@@ -19,3 +19,4 @@ pub mod FormedLoops
 pub mod Decided
 pub mod KeptLine
 pub mod Noted
+pub mod FarBelow

@@ -1,16 +1,18 @@
 //! What the masks of loops say of a sample: whether a zone with trip operates, and whether the line is dead.
-ghost use Rattle.std.specs.Prelude.{ℕ, ◌≡◌, ◌≤◌, ◌+◌, ◌⊎◌, Bool, not, ◌&&◌, ◌==◌, slice_index, List, [], ◌∷◌};
-ghost use Rattle.std.specs.Option.{ForSome};
+ghost use Rattle.std.specs.Prelude.{ℕ, ◌≡◌, ◌≤◌, ◌+◌, ◌⊎◌, ◌^◌, Bool, not, ◌&&◌, ◌==◌, slice_index, List, [], ◌∷◌};
+ghost use Rattle.std.specs.Option.{ForSome, option_map};
+ghost use Rattle.std.specs.List.{All};
 ghost use Rattle.relay_num.specs.Numbers.{IsBelow};
 ghost use Rattle.relay_settings.specs.Ranges.{IsLine, IsZone};
 ghost use Rattle.relay_settings.specs.Settings.{plain_line};
-ghost use Rattle.line_relay.specs.Sizes.{IsMeasured};
+ghost use Rattle.line_relay.specs.Measured.{measured};
 ghost use Rattle.line_relay.specs.Inside.{holds_of};
 ghost use Rattle.line_relay.specs.Points.{has_some};
 ghost use Rattle.line_relay.specs.Decided.{trips_by, dead_by};
 
-use crate::measured::Measured;
-use relay_num::at_least_rms;
+use crate::measured::measure;
+use crate::quiet::is_far_below;
+use relay_num::{Cx, at_least_rms};
 use relay_settings::{LineSettings, ZoneSettings};
 
 /// Whether a zone with trip operates in some loop.
@@ -36,15 +38,19 @@ fn trips_in(zones: &[ZoneSettings], place: usize, mask: u8) -> bool
 }
 
 /// Whether the sample is ready and none of its phase currents is as large as `open_i`.
-pub fn is_dead(settings: &LineSettings, n: u32, measured: &Option<Measured>) -> bool
+pub fn is_dead(settings: &LineSettings, n: u32, phasors: &Option<[Cx; 8]>) -> bool
     requires settings { IsLine settings.now }
     requires n { (n ≡ 80) ⊎ (n ≡ 96) }
-    requires measured { ForSome measured.now IsMeasured }
-    ensures { result ≡ dead_by n (plain_line settings.now) measured.now }
+    requires phasors { ForSome phasors.now (All (λ p. IsBelow p (2 ^ 30 + 1))) }
+    ensures { result ≡ dead_by n (plain_line settings.now) (option_map measured phasors.now) }
 {
-    let Some(m) = measured else {
+    let Some(phasors) = phasors else {
         return false;
     };
+    let m = measure(phasors);
+    if is_far_below(&m.currents, n, settings.open_i) {
+        return true;
+    }
     let [a, b, c] = m.currents;
     !at_least_rms(a, n, settings.open_i)
         && !at_least_rms(b, n, settings.open_i)

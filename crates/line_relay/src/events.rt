@@ -1,5 +1,5 @@
 //! What a line tells of a sample set.
-ghost use Rattle.std.specs.Prelude.{ℕ, ◌≡◌, ◌≤◌, ◌<◌, ◌+◌, ◌++◌, [], ◌∷◌};
+ghost use Rattle.std.specs.Prelude.{ℕ, ◌≡◌, ◌≤◌, ◌<◌, ◌+◌, ◌++◌, [], ◌∷◌, IsTrue, ◌↔◌, false};
 ghost use Rattle.std.specs.Option.{option_map};
 ghost use Rattle.arrayvec.specs.ArrayVec.{array_vec_len};
 ghost use Rattle.event_record.specs.Time.{time_of};
@@ -77,6 +77,9 @@ pub fn push_changes(
     requires room { array_vec_len events.old + 64 ≤ 96 }
     ensures { events.new.items ≡ events.old.items ++ told (option_map (time_of common.now) last) (shown_changes before.now now.now trip.now) }
 {
+    if is_as_before(before, now, trip) {
+        return;
+    }
     push_edge(
         events,
         common,
@@ -107,6 +110,13 @@ pub fn push_changes(
     push_zone_edges(events, common, last, &before.inside, &now.inside);
     push_zone_beginnings(events, common, last, &before.operate, &now.operate);
     push_trip(events, common, last, trip);
+}
+
+/// Whether no fact has changed.
+fn is_as_before(before: &Shown, now: &Shown, trip: &TripState) -> bool
+    ensures { IsTrue result ↔ ((trip.now.rose ≡ false) × (trip.now.fell ≡ false) × (before.now ≡ now.now)) }
+{
+    !trip.rose && !trip.fell && *before == *now
 }
 
 /// Tells that the trip begins or ends.

@@ -9,11 +9,14 @@ ghost use Rattle.loop_impedance.specs.Masks.{loop_mask};
 ghost use Rattle.zone_timers.specs.Masks.{zone_masks};
 ghost use Rattle.line_relay.specs.Sizes.{IsMeasured, AreSmallLoops};
 ghost use Rattle.line_relay.specs.Inside.{has_current, holds_of};
+ghost use Rattle.std.specs.Option.{option_map};
 ghost use Rattle.line_relay.specs.Decided.{inside_masks_by};
+ghost use Rattle.line_relay.specs.Measured.{measured};
 ghost use Rattle.line_relay.specs.FormedLoops.{candidates_of, holds_loop, is_held};
 
 use crate::loops::{Loops, form_loops, has_bit, mask_of, pol_of};
-use crate::measured::Measured;
+use crate::measured::{Measured, measure};
+use crate::quiet::is_far_below;
 use relay_num::{Cx, Steps};
 use relay_settings::{Dir, LineSettings, ZoneSettings};
 use std::sync::ledger::Ledger;
@@ -25,7 +28,7 @@ use zone_shape::zone_holds;
 pub fn inside_masks<L: Ledger>(
     settings: &LineSettings,
     n: u32,
-    measured: &Option<Measured>,
+    phasors: &Option<[Cx; 8]>,
     polarising: Option<Cx>,
     swing: bool,
     blown: bool,
@@ -33,22 +36,23 @@ pub fn inside_masks<L: Ledger>(
 ) -> [u8; 5]
     requires settings { IsLine settings.now }
     requires n { (n ≡ 80) ⊎ (n ≡ 96) }
-    requires measured { ForSome measured.now IsMeasured }
+    requires phasors { ForSome phasors.now (All (λ p. IsBelow p (2 ^ 30 + 1))) }
     requires polarising { ForSome polarising (λ p. IsBelow p (2 ^ 32)) }
-    ensures masks { result ≡ inside_masks_by n (plain_line settings.now) measured.now polarising swing blown }
+    ensures masks { result ≡ inside_masks_by n (plain_line settings.now) (option_map measured phasors.now) polarising swing blown }
     ensures cost { steps.new ≤ steps.old + 30 }
 {
-    let Some(m) = measured else {
+    let Some(phasors) = phasors else {
         return [0; 5];
     };
     if blown {
         return [0; 5];
     }
-    let with_current = with_current(settings, n, m);
+    let m = measure(phasors);
+    let with_current = with_current(settings, n, &m);
     if with_current == 0 {
         return [0; 5];
     }
-    let loops = form_loops(settings, n, m, polarising, with_current);
+    let loops = form_loops(settings, n, &m, polarising, with_current);
     five_masks(settings.zones.as_slice(), &loops, swing, steps)
 }
 
@@ -59,6 +63,9 @@ fn with_current(settings: &LineSettings, n: u32, m: &Measured) -> u8
     requires measured { IsMeasured m.now }
     ensures { result ≡ loop_mask (has_current n (plain_line settings.now) m.now) }
 {
+    if is_far_below(&m.currents, n, settings.i_min) {
+        return 0;
+    }
     current_allowed(
         &m.currents,
         m.current.zero,

@@ -27,8 +27,10 @@
 //! The code slides its sums along the samples and counts runs where the definition looks back. `specs/KeptLine`
 //! says what each part of a line then holds; no definition of what a line says speaks of it.
 //!
-//! Each idea has a room of its own: `front` (with `filter`), `measured`, `guards`, `loops`, `inside`, `delays`,
-//! `decide`, `shown`, `events`, `burst`; `line` calls them one after the other. The rules stand in the crates
+//! Each idea has a room of its own: `front` (with `filter`), `measured`, `guards`, `quiet`, `loops`, `inside`, `delays`,
+//! `decide`, `shown`, `events`, `burst`; `line` calls them one after the other. What is measured is formed where it is
+//! asked for, so that nothing is formed for a table that isn't there; `quiet` (`specs/FarBelow`) tells first, by the
+//! parts alone, that no current is near a threshold. The rules stand in the crates
 //! below: `sample_stream`, `sample_ring`, `mimic_filter` and `cycle_phasor` for the phasors, `sequence_parts` and
 //! `loop_impedance` for what is formed of them, `memory_volt`, `swing_block` and `supervise` for the guards,
 //! `zone_shape` and `direction` for the zones, `zone_timers` and `trip_logic` for the decision, and
@@ -47,6 +49,7 @@ mod laws;
 mod line;
 mod loops;
 mod measured;
+mod quiet;
 mod shown;
 #[cfg(test)]
 mod tests;

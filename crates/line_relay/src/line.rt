@@ -1,12 +1,14 @@
 //! One line of the relay.
-ghost use Rattle.std.specs.Prelude.{◌≡◌, ◌<◌, ◌^◌, ◌+◌, true, All};
+ghost use Rattle.std.specs.Prelude.{◌≡◌, ◌<◌, ◌^◌, ◌+◌, true, All, List, ◌∷◌};
+ghost use Rattle.relay_settings.specs.declared.types.Common.{Common};
+ghost use Rattle.relay_settings.specs.Settings.{PlainGoose};
+ghost use Rattle.goose_publish.specs.Publishing.{PointsTake, take_of, RisesTo, send_of};
+ghost use Rattle.goose_publish.specs.Publishers.{StandsFor as PublisherStandsFor};
 ghost use Rattle.std.specs.Option.{ForSome, option_map};
 ghost use Rattle.relay_num.specs.Numbers.{IsBelow};
 ghost use Rattle.relay_settings.specs.Ranges.{IsLine};
 ghost use Rattle.relay_num.specs.Bounds.{is_cycle};
 ghost use Rattle.memory_volt.specs.KeptMemory.{HoldsBelow};
-ghost use Rattle.line_relay.specs.Measured.{measured};
-ghost use Rattle.line_relay.specs.Sizes.{IsMeasured};
 
 use crate::burst::Burst;
 use crate::decide::{is_dead, trips};
@@ -15,11 +17,10 @@ use crate::events::{push_arrival, push_changes};
 use crate::front::Front;
 use crate::guards::{new_fuse, new_swing, polarise, take_fuse, take_swing};
 use crate::inside::inside_masks;
-use crate::measured::{Measured, measure};
 use crate::shown::{Shown, points_of};
 use arrayvec::ArrayVec;
 use event_record::{At, at_of};
-use goose_publish::{Publisher, Send};
+use goose_publish::{Points, Publisher, Send};
 use memory_volt::MemoryVolt;
 use relay_num::{Cx, NoMemory, Steps};
 use relay_settings::{Common, LineSettings, samples_of};
@@ -69,7 +70,8 @@ impl Line {
     ghost use Rattle.line_relay.specs.Facts.{facts_of};
     ghost use Rattle.line_relay.specs.Points.{send_at};
     ghost use Rattle.line_relay.specs.Bursts.{burst as burst_of, plain_burst};
-    ghost use Rattle.line_relay.specs.Sizes.{IsMeasured};
+    ghost use Rattle.relay_num.specs.Numbers.{IsBelow};
+    ghost use Rattle.line_relay.specs.Measured.{measured};
     ghost use Rattle.line_relay.specs.KeptLine.{StandsFor, HoldsFor, kept_by, last_of, name_of};
     ghost use Rattle.line_relay.specs.Noted.{IsNext};
 
@@ -143,29 +145,29 @@ impl Line {
         let Some(number) = step.outcome.number() else {
             return;
         };
-        let measured = measured_of(&step.phasors);
-        self.note(number, &measured, burst, steps);
+        self.note(number, &step.phasors, burst, steps);
     }
 
-    /// Takes a sample, of which this is measured where it is ready: the guards, the loops inside each zone,
+    /// Takes a sample, whose phasors these are where it is ready: the guards, the loops inside each zone,
     /// the delays, the trip, the events and the frame.
     fn note<L: Ledger>(
         &mut self,
         number: u64,
-        measured: &Option<Measured>,
+        phasors: &Option<[Cx; 8]>,
         burst: &mut Burst,
         steps: &mut Steps<L>,
     )
         requires number { number < 2 ^ 61 }
-        requires measured { ForSome measured.now IsMeasured }
+        requires phasors { ForSome phasors.now (All (λ p. IsBelow p (2 ^ 30 + 1))) }
         requires room { array_vec_len burst.old.events + 64 ≤ 96 }
+        requires unsent { burst.old.send ≡ None }
         // For the samples of each past that the line holds.
-        ensures after { (s : Numbered) (past : List Numbered) → IsNext self.old.common (plain_line self.old.settings) s past (kept_by self.old) number measured.now →
+        ensures after { (s : Numbered) (past : List Numbered) → IsNext self.old.common (plain_line self.old.settings) s past (kept_by self.old) number (option_map measured phasors.now) →
             HoldsFor self.old.common (plain_line self.old.settings) (s ∷ past) (kept_by self.new) }
-        ensures events { (s : Numbered) (past : List Numbered) → IsNext self.old.common (plain_line self.old.settings) s past (kept_by self.old) number measured.now →
+        ensures events { (s : Numbered) (past : List Numbered) → IsNext self.old.common (plain_line self.old.settings) s past (kept_by self.old) number (option_map measured phasors.now) →
             burst.new.events.items ≡ burst.old.events.items ++ told (option_map (time_of self.old.common) (Some number))
             (changes (facts_of self.old.common (plain_line self.old.settings) past) (facts_of self.old.common (plain_line self.old.settings) (s ∷ past))) }
-        ensures send { (s : Numbered) (past : List Numbered) → IsNext self.old.common (plain_line self.old.settings) s past (kept_by self.old) number measured.now →
+        ensures send { (s : Numbered) (past : List Numbered) → IsNext self.old.common (plain_line self.old.settings) s past (kept_by self.old) number (option_map measured phasors.now) →
             burst.new.send ≡ send_at self.old.common (plain_line self.old.settings) (s ∷ past) }
         ensures printable { All IsPrintable burst.old.events.items → All IsPrintable burst.new.events.items }
         ensures same_common { self.new.common ≡ self.old.common }
@@ -174,17 +176,17 @@ impl Line {
         ensures cost { steps.new ≤ steps.old + 31 }
     {
         let n = self.common.n;
-        let polarising = polarise(&mut self.memory, n, self.settings.mem_u, measured, steps);
-        let swing = take_swing(&mut self.swing, &self.settings.swing, measured);
-        let fuse = take_fuse(&mut self.fuse, n, &self.settings.fuse, measured);
-        let inside = inside_masks(&self.settings, n, measured, polarising, swing, fuse, steps);
+        let polarising = polarise(&mut self.memory, n, self.settings.mem_u, phasors, steps);
+        let swing = take_swing(&mut self.swing, &self.settings.swing, phasors);
+        let fuse = take_fuse(&mut self.fuse, n, &self.settings.fuse, phasors);
+        let inside = inside_masks(&self.settings, n, phasors, polarising, swing, fuse, steps);
         let operate = self.timers.take(&inside);
         let operated = trips(self.settings.zones.as_slice(), &operate);
         let trip = self
             .trip
-            .take(number, operated, is_dead(&self.settings, n, measured));
+            .take(number, operated, is_dead(&self.settings, n, phasors));
         let shown = Shown {
-            ready: measured.is_some(),
+            ready: phasors.is_some(),
             swing,
             fuse,
             inside,
@@ -198,7 +200,12 @@ impl Line {
             &shown,
             &trip,
         );
-        burst.send = self.publisher.take(number, &points_of(&shown, trip.on));
+        publish(
+            &mut self.publisher,
+            number,
+            &points_of(&shown, trip.on),
+            &mut burst.send,
+        );
         self.shown = shown;
     }
 
@@ -245,15 +252,20 @@ impl Line {
     }
 }
 
-/// What is measured at a ready sample.
-fn measured_of(phasors: &Option<[Cx; 8]>) -> Option<Measured>
-    requires { ForSome phasors.now (λ ps. All (λ p. IsBelow p (2 ^ 30 + 1)) ps) }
-    ensures value { result ≡ option_map measured phasors.now }
-    ensures size { ForSome result IsMeasured }
+/// Puts the frame that is sent at this sample, if any, where none is. Mostly none is sent, and nothing is written.
+fn publish(publisher: &mut Publisher, number: u64, points: &Points, send: &mut Option<Send>)
+    requires number { number < 2 ^ 61 }
+    requires unsent { send.old ≡ None }
+    ensures send { (common : Common) (goose : PlainGoose) (takes : List PointsTake) →
+        PublisherStandsFor common goose takes publisher.old → RisesTo (take_of number points.now) takes →
+        send.new ≡ send_of common (take_of number points.now) takes }
+    ensures after { (common : Common) (goose : PlainGoose) (takes : List PointsTake) →
+        PublisherStandsFor common goose takes publisher.old → RisesTo (take_of number points.now) takes →
+        PublisherStandsFor common goose (take_of number points.now ∷ takes) publisher.new }
 {
-    match phasors {
-        Some(phasors) => Some(measure(phasors)),
-        None => None,
+    match publisher.take(number, points) {
+        Some(sent) => *send = Some(sent),
+        None => {}
     }
 }
 

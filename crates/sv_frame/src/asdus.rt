@@ -8,6 +8,7 @@ ghost use Rattle.sv_frame.specs.Sequence.{asdus_in_sequence};
 use crate::Reason;
 use crate::fields::Fields;
 use crate::lent::Asdu;
+use crate::usual::usual_asdu;
 use arrayvec::ArrayVec;
 use ber_fields::head;
 use relay_num::Steps;
@@ -15,6 +16,19 @@ use std::sync::ledger::Ledger;
 
 /// The ASDU whose fields, sixteen at most, fill the bytes.
 fn asdu_of<'a, L: Ledger>(text: &'a [u8], steps: &mut Steps<L>) -> Option<Asdu<'a>>
+    requires { length text.now ≤ 2048 }
+    ensures exact { option_map plain_asdu result ≡ asdu_of text.now }
+    ensures cost { steps.new ≤ steps.old + 16 }
+{
+    if let Some(asdu) = usual_asdu(text) {
+        return Some(asdu);
+    }
+    gathered_asdu(text, steps)
+}
+
+/// The same, head by head.
+#[inline(never)]
+fn gathered_asdu<'a, L: Ledger>(text: &'a [u8], steps: &mut Steps<L>) -> Option<Asdu<'a>>
     requires { length text.now ≤ 2048 }
     ensures exact { option_map plain_asdu result ≡ asdu_of text.now }
     ensures cost { steps.new ≤ steps.old + 16 }

@@ -8,14 +8,14 @@ use crate::channel::{Channel, channel_at};
 pub struct Asdu<'a> {
     /// The name of the stream (svID).
     pub sv_id: &'a [u8],
-    /// The sample counter (smpCnt).
-    pub counter: u16,
-    /// The configuration revision (confRev).
-    pub conf_rev: u32,
-    /// The state of the clock (smpSynch): 0 none, 1 local, 2 global.
-    pub synch: u8,
     /// The data set, at most 2048 bytes.
     pub samples: &'a [u8],
+    /// The configuration revision (confRev).
+    pub conf_rev: u32,
+    /// The sample counter (smpCnt).
+    pub counter: u16,
+    /// The state of the clock (smpSynch): 0 none, 1 local, 2 global.
+    pub synch: u8,
     pub ghost small: { length samples.now ≤ 2048 },
 }
 

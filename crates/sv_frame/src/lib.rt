@@ -6,12 +6,13 @@
 //!
 //! `sv` of `specs/Frame.antt` is the definition, over whole lists of bytes and of BER elements;
 //! `specs/Grammar.antt` says the same as a grammar, and the laws `show_grammar` and `show_kind` tie the
-//! two. The head of each element is read once, in one counted step. It stands on `ber_fields`.
+//! two. The head of each element is read once, in one counted step; only an ASDU is first compared with the usual
+//! form, the five required fields and no other, which costs no step. It stands on `ber_fields`.
 #![tactic(auto)]
 
-ghost use Rattle.std.specs.Prelude.{◌≡◌, ◌+◌, ◌≤◌, length, min};
+ghost use Rattle.std.specs.Prelude.{◌≡◌, ◌+◌, ◌≤◌, length, min, []};
 ghost use Rattle.sv_frame.specs.Frame.{sv};
-ghost use Rattle.sv_frame.specs.Answer.{sv_view, most_heads};
+ghost use Rattle.sv_frame.specs.Answer.{sv_view, kind_view, most_heads, most_heads_of};
 
 mod asdus;
 mod channel;
@@ -20,6 +21,7 @@ mod frame;
 mod laws;
 mod lent;
 mod pdu;
+mod usual;
 
 use arrayvec::ArrayVec;
 pub use channel::Channel;
@@ -57,24 +59,55 @@ pub enum SvRead<'a> {
     Pdu(ArrayVec<Asdu<'a>, 16>),
 }
 
+/// What a captured frame is, whose sample sets stand elsewhere.
+#[derive(Clone, Copy, Debug, PartialEq, Eq)]
+pub enum SvKind {
+    /// Other traffic.
+    Other,
+    /// A frame of sampled values whose first failing layer is this one.
+    Bad(Reason),
+    /// A frame of sampled values that is read.
+    Pdu,
+}
+
+/// The same as `read`, with the sample sets put into `found`, which is empty. Where the frame isn't read, what `found`
+/// then holds isn't to be used. The list is made once by the caller, and not moved.
+#[tactic(auto, unfolding(crate::specs::Frame::sv))]
+pub fn read_into<'a, L: Ledger>(
+    frame: &'a [u8],
+    captured: u32,
+    steps: &mut Steps<L>,
+    found: &mut ArrayVec<Asdu<'a>, 16>,
+) -> SvKind
+    requires lent { length frame.now ≡ min captured 2048 }
+    requires empty { found.old.items ≡ [] }
+    ensures exact { kind_view result found.new.items ≡ sv frame.now captured }
+    ensures cost { steps.new ≤ steps.old + most_heads_of result found.new.items }
+{
+    let Some(payload) = payload_of(frame) else {
+        return SvKind::Other;
+    };
+    let before = frame.len() - payload.len();
+    match asdus_in(before, payload, captured, steps, found) {
+        Ok(()) => SvKind::Pdu,
+        Err(reason) => SvKind::Bad(reason),
+    }
+}
+
 /// What a captured frame says. `captured` bytes of it were captured, and `frame` is these, or the
 /// first 2048 where there are more.
 ///
 /// Each answer comes exactly where its variant, or that of `Reason`, says. At most `4 + 17 * a` heads
 /// are read for `a` sample sets, and at most `4 + 17 * 16` for any other answer.
-#[tactic(auto, unfolding(crate::specs::Frame::sv))]
 pub fn read<'a, L: Ledger>(frame: &'a [u8], captured: u32, steps: &mut Steps<L>) -> SvRead<'a>
     requires { length frame.now ≡ min captured 2048 }
     ensures exact { sv_view result ≡ sv frame.now captured }
     ensures cost { steps.new ≤ steps.old + most_heads result }
 {
-    let Some(payload) = payload_of(frame) else {
-        return SvRead::Other;
-    };
-    let before = frame.len() - payload.len();
     let mut found = ArrayVec::new();
-    match asdus_in(before, payload, captured, steps, &mut found) {
-        Ok(()) => SvRead::Pdu(found),
-        Err(reason) => SvRead::Bad(reason),
+    match read_into(frame, captured, steps, &mut found) {
+        SvKind::Other => SvRead::Other,
+        SvKind::Bad(reason) => SvRead::Bad(reason),
+        SvKind::Pdu => SvRead::Pdu(found),
     }
 }

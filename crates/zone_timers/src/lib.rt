@@ -19,7 +19,7 @@ mod tests;
 mod zone;
 
 pub use laws::show_operates_by_number;
-use zone::{ends_of, take_zones};
+use zone::{ends_of, is_none, take_zones};
 
 /// For each loop of each of five zones, for how many takes in a row it has been inside, up to one more than
 /// its delay: 30 loops that share nothing. A zone's six loops stand in the first six of eight lanes.
@@ -58,6 +58,11 @@ impl Timers {
         ensures after { (ground_delays phase_delays : List ℕ) (takes : List (List ℕ)) → StandsFor ground_delays phase_delays takes self.old →
             StandsFor ground_delays phase_delays (inside.now ∷ takes) self.new }
     {
+        // Where nothing is inside no run goes on, whatever it was.
+        if is_none(inside) {
+            self.clear();
+            return [0; 5];
+        }
         take_zones(&self.ends, inside, &mut self.runs)
     }
 

@@ -6,6 +6,7 @@ use Rattle.zone_timers.specs.Masks.{has_loop}
 use Rattle.zone_timers.specs.Operate.{delay_of, operates}
 use Rattle.zone_timers.specs.KeptTimers.{StandsFor, lane}
 use Rattle.zone_timers.proofs.OperateLemmas.{zone_masks-same}
+use Rattle.zone_timers.proofs.StillLemmas.{still_masks, still_run}
 use Rattle.zone_timers.proofs.Timers.take.Goals as goal
 
 -- a count up to n has come to n exactly where the run is at least n long
@@ -33,3 +34,15 @@ returns-clause-operated c ground_delays phase_delays takes stands =
 pub returns-clause-after : goal.returns-clause-after
 returns-clause-after c ground_delays phase_delays takes stands =
     record { ends = stands.ends; runs = runs_next c ground_delays phase_delays takes stands }
+
+pub returns-then-is_none-clause-operated : goal.returns-then-is_none-clause-operated
+returns-then-is_none-clause-operated c ground_delays phase_delays takes stands =
+    still_masks ground_delays phase_delays c.args.inside.now takes (c.is_none.ensures c.if-is_none.true)
+
+pub returns-then-is_none-clause-after : goal.returns-then-is_none-clause-after
+returns-then-is_none-clause-after c ground_delays phase_delays takes stands =
+    let cleared = c.clear.ensures ground_delays phase_delays takes stands in
+    record {
+      ends = cleared.ends;
+      runs = λ zone lp z l. cleared.runs zone lp z l ∙ still_run c.args.inside.now takes zone lp (delay_of ground_delays phase_delays zone lp + 1) (c.is_none.ensures c.if-is_none.true) z l;
+    }

@@ -1,4 +1,5 @@
-use Rattle.std.proofs.Common.{◌≡◌, suc, arith}
+use Rattle.std.proofs.Common.{◌≡◌, ◌∙◌, suc, sym, arith}
+use Rattle.std.proofs.lemmas.Bool.{leb-true}
 use Rattle.goose_publish.specs.Offsets.{step_ms, offset_ms}
 use Rattle.goose_publish.proofs.OffsetLemmas.{step-next}
 use Rattle.goose_publish.proofs.pace.Pace.pass.Goals as goal
@@ -15,10 +16,8 @@ loop-self-preserved c = record {
           rate = now.at.rate;
           heartbeat = now.at.heartbeat;
           step = step;
-          next = omega (arith, step, now.at.next, c.from-in-loop-self-2.ensures);
+          next = omega (arith, step, now.at.next, c.from.ensures);
         };
-        passed =
-            rw (← now.at.next, ← now.at.rate)
-            (omega (arith, c.wide_samples_of-in-loop-self.ensures, c.from-in-loop-self.ensures, c.loop-self-test.true));
+        passed = rw (← now.at.next, ← now.at.rate) (leb-true _ _ (sym c.is_within.ensures ∙ c.loop-self-test.true));
       };
 }

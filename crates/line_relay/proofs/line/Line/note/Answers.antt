@@ -1,4 +1,4 @@
-use Rattle.std.proofs.Common.{◌≡◌, ◌∙◌, ℕ, ◌≤◌, ap, ap₂, sym, subst, List, ◌∷◌, ◌++◌, Option, Some}
+use Rattle.std.proofs.Common.{◌≡◌, ◌∙◌, ℕ, ◌≤◌, ap, ap₂, sym, subst, List, ◌∷◌, ◌++◌, Option, Some, None, refl}
 use Rattle.std.specs.Prelude.{is_some, IfSome}
 use Rattle.std.specs.Option.{option_map}
 use Rattle.std.specs.List.{All}
@@ -23,6 +23,7 @@ use Rattle.goose_publish.specs.Publishing.{PointsTake, take_of as points_take_of
 use Rattle.goose_publish.specs.Publishers.{StandsFor as PublisherStandsFor}
 use Rattle.event_record.specs.Printable.{IsPrintable}
 use Rattle.line_relay.specs.declared.measured.Measured.{Measured}
+use Rattle.line_relay.specs.Measured.{measured}
 use Rattle.line_relay.specs.declared.shown.Shown.{Shown}
 use Rattle.line_relay.specs.Samples.{Numbered, number_of_sample}
 use Rattle.line_relay.specs.Guards.{is_ready_at, polarising_at, is_swing_at, is_blown_at}
@@ -59,6 +60,10 @@ inside_masks-inside-requires-clause-polarising g c = (c.polarise-polarising.ensu
 pub is_dead-requires-clause-settings : goal.is_dead-requires-clause-settings
 is_dead-requires-clause-settings g c = ranges_of c.args.self.now.settings c.args.self.now.ranges
 
+some_same : {X Y : Type 0} (f : X → Y) (o : Option X) → is_some o ≡ is_some (option_map f o)
+some_same f None = refl
+some_same f (Some x) = refl
+
 abbrev shown_now : (g : given.Over) → goal.After-self-1 g → Shown
 shown_now g c = record {
   ready = c.is_some.result;
@@ -68,7 +73,7 @@ shown_now g c = record {
   operate = c.take-operate.result;
 }
 
-module _ (g : given.Over) (c : goal.After-self-1 g) (s : Numbered) (past : List Numbered) (next : IsNext c.args.self.now.common (plain_line c.args.self.now.settings) s past (kept_by c.args.self.now) c.args.number c.args.measured.now) where
+module _ (g : given.Over) (c : goal.After-self-1 g) (s : Numbered) (past : List Numbered) (next : IsNext c.args.self.now.common (plain_line c.args.self.now.settings) s past (kept_by c.args.self.now) c.args.number (option_map measured c.args.phasors.now)) where
   abbrev common : Common
   common = c.args.self.now.common
 
@@ -85,15 +90,15 @@ module _ (g : given.Over) (c : goal.After-self-1 g) (s : Numbered) (past : List 
   cycle = cycle_two common.n c.args.self.now.cycle
 
   -- what the guards have taken
-  volts : next_run (option_map (volt_take common.n settings.mem_u) c.args.measured.now) (volt_takes common settings past) ≡ volt_takes common settings longer
+  volts : next_run (option_map (volt_take common.n settings.mem_u) (option_map measured c.args.phasors.now)) (volt_takes common settings past) ≡ volt_takes common settings longer
   volts = ap (λ (m : Option Measured). next_run (option_map (volt_take common.n settings.mem_u) m) (volt_takes common settings past)) next.formed
       ∙ NextLemmas.run_next common settings cycle (volt_take common.n settings.mem_u) s past next.rises
 
-  swings : (w : SwingSettings) → next_run (option_map (swing_take w) c.args.measured.now) (swing_takes common settings w past) ≡ swing_takes common settings w longer
+  swings : (w : SwingSettings) → next_run (option_map (swing_take w) (option_map measured c.args.phasors.now)) (swing_takes common settings w past) ≡ swing_takes common settings w longer
   swings w = ap (λ (m : Option Measured). next_run (option_map (swing_take w) m) (swing_takes common settings w past)) next.formed
       ∙ NextLemmas.run_next common settings cycle (swing_take w) s past next.rises
 
-  fuses : (f : FuseSettings) → next_run (option_map (fuse_take common.n f) c.args.measured.now) (fuse_takes common settings f past) ≡ fuse_takes common settings f longer
+  fuses : (f : FuseSettings) → next_run (option_map (fuse_take common.n f) (option_map measured c.args.phasors.now)) (fuse_takes common settings f past) ≡ fuse_takes common settings f longer
   fuses f = ap (λ (m : Option Measured). next_run (option_map (fuse_take common.n f) m) (fuse_takes common settings f past)) next.formed
       ∙ NextLemmas.run_next common settings cycle (fuse_take common.n f) s past next.rises
 
@@ -166,7 +171,7 @@ module _ (g : given.Over) (c : goal.After-self-1 g) (s : Numbered) (past : List 
   shown = NextLemmas.facts_same _ _ ready swing blown inside operate on
     where
       ready : c.is_some.result ≡ is_ready_at common settings longer
-      ready = c.is_some.ensures ∙ ap is_some next.formed ∙ NextLemmas.ready_is common settings longer
+      ready = c.is_some.ensures ∙ some_same measured c.args.phasors.now ∙ ap is_some next.formed ∙ NextLemmas.ready_is common settings longer
 
   abbrev points_takes : List PointsTake
   points_takes = at_each (points_take common settings) past
@@ -195,8 +200,8 @@ returns-clause-after g c s past next =
           (c.take-operate.ensures.after (ground_delays common settings) (phase_delays common settings) (inside_takes g c s past next) next.holds.timers);
       trip = subst (λ (t : TripTake). TripStandsFor (least g c s past next) (open_run g c s past next) (t ∷ trip_takes g c s past next) c.take-trip.new.self) (taken g c s past next)
           (c.take-trip.ensures.after (least g c s past next) (open_run g c s past next) (trip_takes g c s past next) next.holds.trip (follows g c s past next));
-      publisher = subst (λ (t : PointsTake). PublisherStandsFor common settings.goose (t ∷ points_takes g c s past next) c.take-burst.new.self) (point g c s past next)
-          (c.take-burst.ensures.after common settings.goose (points_takes g c s past next) next.holds.publisher (rises g c s past next));
+      publisher = subst (λ (t : PointsTake). PublisherStandsFor common settings.goose (t ∷ points_takes g c s past next) c.publish.new.publisher) (point g c s past next)
+          (c.publish.ensures.after common settings.goose (points_takes g c s past next) next.holds.publisher (rises g c s past next));
       shown = ap (facts_shown (shown_now g c)) (sym (on g c s past next)) ∙ shown g c s past next;
     }
 
@@ -220,5 +225,5 @@ pub returns-clause-send : goal.returns-clause-send
 returns-clause-send g c s past next =
     let common = c.args.self.now.common in
     let settings = plain_line c.args.self.now.settings in
-    c.take-burst.ensures.send common settings.goose (points_takes g c s past next) next.holds.publisher (rises g c s past next)
+    c.publish.ensures.send common settings.goose (points_takes g c s past next) next.holds.publisher (rises g c s past next)
     ∙ ap (λ t. send_of common t (points_takes g c s past next)) (point g c s past next)

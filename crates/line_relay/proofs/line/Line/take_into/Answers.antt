@@ -88,13 +88,12 @@ module _ (g : given.Over) (c : goal.After-note g) (common : Common) (settings : 
   newer : taken_samples common settings (a ∷ asdus) ≡ s ∷ past
   newer = taken common settings a asdus c.in-Some.number (ap number_taken came ∙ number)
 
-  formed : c.measured_of-measured.result ≡ formed_at common settings (s ∷ past)
-  formed = c.measured_of-measured.ensures.value
-      ∙ ap (option_map measured) (ap (λ (t : Step). t.phasors) step
+  formed : option_map measured c.take-step.result.phasors ≡ formed_at common settings (s ∷ past)
+  formed = ap (option_map measured) (ap (λ (t : Step). t.phasors) step
       ∙ step_phasors common settings a asdus c.in-Some.number (ap number_taken came ∙ number) ∙ ap (phasors_of common.n settings.mimic) newer)
       ∙ formed_is common settings (s ∷ past)
 
-  next : IsNext c.args.self.now.common (plain_line c.args.self.now.settings) s past (kept_by c.args.self.now) c.in-Some.number c.measured_of-measured.result
+  next : IsNext c.args.self.now.common (plain_line c.args.self.now.settings) s past (kept_by c.args.self.now) c.in-Some.number (option_map measured c.take-step.result.phasors)
   next = record {
     holds = moves common c.args.self.now.common settings (plain_line c.args.self.now.settings) past (kept_by c.args.self.now) (sym stands.same_common) (sym stands.same_settings) stands.parts;
     same_number = refl;

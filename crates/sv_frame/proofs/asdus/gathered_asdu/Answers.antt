@@ -1,7 +1,7 @@
 use Rattle.std.proofs.Common.{◌≡◌, ◌-◌, ◌<◌, suc, length, drop, sym, ◌∙◌, arith}
 use Rattle.std.proofs.lemmas.List.{drop_all, length-drop}
 use Rattle.sv_frame.proofs.GatherLemmas.{starts, goes_on, falls, breaks, passes, ends}
-use Rattle.sv_frame.proofs.asdus.asdu_of.Goals as goal
+use Rattle.sv_frame.proofs.asdus.gathered_asdu.Goals as goal
 
 pub returns-then-left-eq0-clause-exact : goal.returns-then-left-eq0-clause-exact
 returns-then-left-eq0-clause-exact g c =

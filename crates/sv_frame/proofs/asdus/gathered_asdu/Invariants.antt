@@ -2,7 +2,7 @@ use Rattle.std.proofs.Common.{◌≡◌, ◌+◌, ◌-◌, ◌≤◌, length, dr
 use Rattle.sv_frame.specs.Asdu.{asdu_of}
 use Rattle.sv_frame.specs.Views.{plain_fields}
 use Rattle.sv_frame.proofs.GatherLemmas.{said_of}
-use Rattle.sv_frame.proofs.asdus.asdu_of.Given as goal
+use Rattle.sv_frame.proofs.asdus.gathered_asdu.Given as goal
 
 abbrev pub invariant-loop-at : goal.invariant-loop-at
 invariant-loop-at g l = record {
