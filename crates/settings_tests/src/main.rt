@@ -4,10 +4,12 @@
 //! OLD | NEW`, where `\n` stands for a line's end. The program prints each line with the answer that
 //! the edited text gets in the place of the owed one, so `stdout` is `rows.txt` itself, followed by
 //! three texts that no edit makes, and by the zones of three texts, with all that they say. Owed is
-//! `ok L lines Z zones`, or the number and key of a refusal.
+//! `ok L lines Z zones`, or the number and key of a refusal. Last come all fields of a drill's
+//! settings, as they are read from its text and as it makes them.
 #![tactic(auto)]
 
-use relay_settings::{Dir, Settings, Shape, ZonePart, ZoneSettings};
+use drill::{drill_settings, drill_text};
+use relay_settings::{Dir, GooseSettings, LineSettings, Settings, Shape, ZonePart, ZoneSettings};
 use settings_read::{SettingsError, read_settings};
 use std::alloc::{AllocError, Global};
 use std::{fs, io};
@@ -104,6 +106,80 @@ fn zones(rt: &HostRuntime, name: &str) -> io::Result<()> {
     Ok(())
 }
 
+fn text_of(bytes: &[u8]) -> &str {
+    std::str::from_utf8(bytes).unwrap_or("?")
+}
+
+/// The line's keys in their order, and whether it has each of the four tables that may be missing.
+fn line_text(alloc: Global, line: &LineSettings) -> Result<String, AllocError> {
+    let name = text_of(line.name.as_slice());
+    let sv_id = text_of(line.sv_id.as_slice());
+    let (conf_rev, mask, synch) = (line.conf_rev, line.quality_mask, line.synch_min);
+    let (r, x, k0_re, k0_im) = (line.line_r, line.line_x, line.k0_re, line.k0_im);
+    let (i_min, i0_min, dir_i2) = (line.i_min, line.i0_min, line.dir_i2);
+    let (mem_u, mem_ms, trip_min_ms) = (line.mem_u, line.mem_ms, line.trip_min_ms);
+    let (open_i, open_ms) = (line.open_i, line.open_ms);
+    let (mimic, swing) = (line.mimic.is_some(), line.swing.is_some());
+    let (fuse, load) = (line.fuse.is_some(), line.load.is_some());
+    let identity = format!(in alloc; "{name} {sv_id} {conf_rev} {mask} {synch}")?;
+    let impedance = format!(in alloc; "{r} {x} {k0_re} {k0_im}")?;
+    let currents = format!(in alloc; "{i_min} {i0_min} {dir_i2} {mem_u} {mem_ms}")?;
+    let times = format!(in alloc; "{trip_min_ms} {open_i} {open_ms}")?;
+    format!(in alloc;
+        "{identity} | {impedance} | {currents} {times} | {mimic} {swing} {fuse} {load}"
+    )
+}
+
+/// What a line publishes: the addresses as numbers, and the other keys in their order.
+fn goose_text(alloc: Global, goose: &GooseSettings) -> Result<String, AllocError> {
+    let [d0, d1, d2, d3, d4, d5] = goose.dst;
+    let [s0, s1, s2, s3, s4, s5] = goose.src;
+    let (appid, priority, id) = (goose.appid, goose.vlan_priority, goose.vlan_id);
+    let gocb_ref = text_of(goose.gocb_ref.as_slice());
+    let dat_set = text_of(goose.dat_set.as_slice());
+    let go_id = text_of(goose.go_id.as_slice());
+    let conf_rev = goose.conf_rev;
+    let addresses = format!(in alloc;
+        "{d0} {d1} {d2} {d3} {d4} {d5} {s0} {s1} {s2} {s3} {s4} {s5}"
+    )?;
+    format!(in alloc;
+        "{addresses} | {appid} {priority} {id} {gocb_ref} {dat_set} {go_id} {conf_rev}"
+    )
+}
+
+/// Prints all fields of settings whose lines have one zone each.
+fn fields(rt: &HostRuntime, name: &str, settings: &Settings) -> io::Result<()> {
+    let alloc = rt.alloc();
+    let common = &settings.common;
+    let (rate, nominal, n) = (common.rate, common.nominal, common.n);
+    let (start, heartbeat_ms) = (common.start, common.heartbeat_ms);
+    println!(rt; "{name} | {rate} {nominal} {n} {start} {heartbeat_ms}")?;
+    for line in settings.lines.as_slice() {
+        let keys = line_text(alloc, line)?;
+        let goose = goose_text(alloc, &line.goose)?;
+        println!(rt; "{name} | {keys}")?;
+        println!(rt; "{name} | {goose}")?;
+        if let [zone] = line.zones.as_slice() {
+            let text = zone_text(alloc, zone)?;
+            println!(rt; "{name} | {text}")?;
+        }
+    }
+    Ok(())
+}
+
+/// Prints a drill's settings, as they are read from its text and as it makes them.
+fn drills(rt: &HostRuntime) -> io::Result<()> {
+    let alloc = rt.alloc();
+    match read_settings(alloc, drill_text().as_bytes()) {
+        Ok(settings) => fields(rt, "drill", &settings)?,
+        Err(_) => println!(rt; "drill | refused")?,
+    }
+    match drill_settings(alloc) {
+        Ok(settings) => fields(rt, "drill", &settings),
+        Err(_) => println!(rt; "drill | no memory"),
+    }
+}
+
 fn row(rt: &HostRuntime, line: &str) -> io::Result<()> {
     let alloc = rt.alloc();
     let (_, row) = line.split_once(" | ").unwrap_or(("", line));
@@ -135,5 +211,5 @@ fn main(rt: HostRuntime) -> io::Result<()> {
     for name in ["full", "s3", "parts"] {
         zones(&rt, name)?;
     }
-    Ok(())
+    drills(&rt)
 }

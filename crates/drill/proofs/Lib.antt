@@ -1,0 +1,4 @@
+pub mod SlotLemmas
+pub mod CountLemmas
+pub mod FrameLemmas
+pub mod SettingsLemmas
