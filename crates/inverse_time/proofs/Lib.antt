@@ -1,0 +1,4 @@
+pub mod RootLemmas
+pub mod PhaseLemmas
+pub mod BackupLemmas
+pub mod BankLemmas
