@@ -1,0 +1,4 @@
+pub mod Owners
+pub mod Frames
+pub mod Told
+pub mod KeptStation
