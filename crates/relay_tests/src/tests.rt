@@ -1,6 +1,7 @@
 //! Rows of the whole relay, one file a subject, over the inputs of the first.
 mod blocks;
 mod captures;
+mod drills;
 mod failing;
 mod inputs;
 mod numbers;
@@ -8,4 +9,5 @@ mod plain;
 mod sent;
 mod settings;
 mod signals;
+mod stations;
 mod zones;

@@ -1,78 +1,118 @@
--- `check`, step by step.
-use Rattle.std.proofs.Common.{◌≡◌, ℕ, ◌+◌, ◌<◌, ◌≤◌, IsTrue, List, [], ◌∷◌, ◌++◌, get_or, add_assoc, add-zero, length, take, sym, ◌∙◌, ap, subst, arith}
-use Rattle.std.specs.Prelude.{Ok, Err}
-use Rattle.room_io.specs.Room.{RoomState, SlotState, Rose, IsUnused, OnlyAt, AppendsPart}
-use Rattle.room_io.specs.declared.room.Slot.{Slot}
-use Rattle.room_io.specs.declared.room.Slot.TheVariants.{Answer}
+-- `check`, and how it counts zones.
+use Rattle.std.proofs.Common.{◌≡◌, ◌∙◌, inl, inr, false, ℕ, ◌+◌, ◌<◌, ◌≤◌, IsTrue, List, [], ◌∷◌, ◌++◌, get_or, add_assoc, add-zero, length, take, refl, sym, ap, subst, arith}
+use Rattle.std.specs.Prelude.{Some, Ok, Err}
 use Rattle.std.proofs.lemmas.List.{take_more, map-append}
-use Rattle.relay_settings.specs.Settings.{PlainLine, plain_settings, plain_line, plain_lines}
+use Rattle.std.proofs.lemmas.Bool.{cases_Bool}
+use Rattle.room_io.specs.Room.{RoomState, SlotState, at, Rose, OnlyAt, IsFile}
+use Rattle.room_io.specs.declared.room.Slot.{Slot}
+use Rattle.room_io.specs.declared.room.Slot.TheVariants.{Settings, Capture, Goose, Log, Note, Answer}
+use Rattle.relay_settings.specs.Settings.{PlainLine, plain_line, plain_lines}
 use Rattle.relay_settings.specs.declared.types.LineSettings.{LineSettings}
-use Rattle.relay_settings.specs.declared.types.Settings.{Settings as SettingsRead}
-use Rattle.relay_tool.specs.Endings.{Ending, done, usage, refused, not_capture, cut, damaged, too_long, fault, no_memory}
-use Rattle.relay_tool.specs.Ends.{ending_of}
-use Rattle.relay_tool.specs.Run.{check_text, zones_in}
-use Rattle.relay_tool.specs.Steps.{ReadsSettings, SettingsEnd, Checks, CheckEnd}
-use Rattle.relay_tool.specs.declared.end.End.{End}
+use Rattle.relay_tool.specs.Endings.{Ending, status_of, done, not_capture, fault}
+use Rattle.relay_tool.specs.Words.{Asked, check, word}
+use Rattle.relay_tool.specs.Run.{Run, run_of, zones_in}
+use Rattle.relay_tool.specs.Files.{IsWritten, is_slot, IsNamedBy, AreReady, IsStarted}
+use Rattle.relay_tool.specs.Making.{Puts}
+use Rattle.relay_tool.specs.Leaving.{Gives, EndsAs, Leaves}
+use Rattle.relay_tool.specs.declared.put.Failed.{Failed}
+use Rattle.relay_tool.proofs.Slots.{kept-at, same-slot}
+use Rattle.relay_tool.proofs.Staging.{unbegun, written-file}
+use Rattle.relay_tool.proofs.Replaying.{Read}
+use Rattle.room_io.proofs.Rooms.{tells-OnlyAt}
 
--- the settings end it
-pub Checks-settings : {name : List ℕ} {a : RoomState} (b : RoomState) (e : End) → IsUnused a → ReadsSettings name a b (Err e) → Checks name a b (ending_of e)
-Checks-settings {name} {a} b e unused settings = record {
-  only = settings.only.is ∙ ap (λ (slot : SlotState). let r : RoomState = record a { settings = b.settings; answer = slot } in r) (sym answer);
-  named = settings.named;
-  later = (settings.later, let f = ap (λ (slot : SlotState). slot.faults) answer in omega arith);
-  end = why (ending_of e) settings.end;
-}
-  where
-    answer : b.answer ≡ a.answer
-    answer = ap (λ (room : RoomState). room.answer) settings.only.is
+-- ---- an answer to standard output
 
-    none : IsTrue a.tells → b.answer.bytes ≡ []
-    none told = ap (λ (slot : SlotState). slot.bytes) answer ∙ unused.answer told
+file-apart : (slot : Slot) → IsFile slot → is_slot Answer slot ≡ false
+file-apart Settings e = refl
+file-apart Capture e = refl
+file-apart Goose e = refl
+file-apart Log e = refl
+file-apart Note e = cc
+file-apart Answer e = cc
 
-    why : (ending : Ending) → SettingsEnd name a b ending → CheckEnd name a b ending
-    why (refused number key) r = λ told. (r told, none told)
-    why (fault slot) r = subst (λ (s : Slot). CheckEnd name a b (fault s)) (sym r.0) (r.1, none)
-    why no_memory r = none
-    why done r = absurd r
-    why usage r = absurd r
-    why not_capture r = absurd r
-    why (cut records) r = absurd r
-    why (damaged records size) r = absurd r
-    why (too_long records) r = absurd r
+-- a run that writes this to standard output
+abbrev pub answered : List ℕ → Run
+answered text = record { ending = done; answer = text; writes = [] }
 
--- its answer was written, or a front of it
-pub Checks-answer : {name : List ℕ} {a b : RoomState} {s : SettingsRead} (d : RoomState) (ending : Ending) → IsUnused a → ReadsSettings name a b (Ok s) → OnlyAt Answer b d → b.answer.faults ≤ d.answer.faults → CheckEnd name a d ending → Checks name a d ending
-Checks-answer {name} {a} {b} d ending unused settings only later why =
-    let answer : b.answer ≡ a.answer = ap (λ (room : RoomState). room.answer) settings.only.is in
-    let slot : d.settings ≡ b.settings = ap (λ (room : RoomState). room.settings) only.is in
+module _ (asked : Asked) {a b : RoomState} (d : RoomState) (text : List ℕ) (read : Read asked a b) (is : IsTrue a.tells → run_of (Some asked) a.contents ≡ answered text) where
+  before : IsTrue a.tells → b.answer.bytes ≡ []
+  before told = ap (λ (s : SlotState). s.bytes) read.stage.answer ∙ read.unused.answer told
+
+  still : OnlyAt Answer b d → (slot : Slot) → IsFile slot → at d slot ≡ at b slot
+  still only slot file = kept-at slot only (file-apart slot file)
+
+  empty-still : OnlyAt Answer b d → IsWritten [] d
+  empty-still only = record { each = λ slot file. ap (λ (x : SlotState). x.bytes) (still only slot (written-file slot file).0) ∙ read.empty.each slot file }
+
+  ends : OnlyAt Answer b d → b.answer.faults ≤ d.answer.faults → (ending : Ending) → EndsAs (Some asked) a d ending → Leaves (Some asked) a d ending
+  ends only later ending end = record {
+    tells = tells-OnlyAt only ∙ read.stage.tells;
+    note = kept-at Note only refl ∙ read.stage.note;
+    named = λ slot file. subst (λ (x : SlotState). IsNamedBy (word asked slot) x.name) (sym (still only slot file)) (read.stage.named slot file);
+    later = λ slot. elim (cases_Bool (is_slot Answer slot)) [
+      | inl same ↦ subst (λ x. (at a x).faults ≤ (at d x).faults) (same-slot Answer slot same) (let h = read.stage.later Answer in omega arith)
+      | inr other ↦ (let h = read.stage.later slot in let k = ap (λ (x : SlotState). x.faults) (kept-at slot only other) in omega arith)
+    ];
+    end = end;
+  }
+
+  pub answer-done : IsStarted (Some asked) b → Puts Answer text b d (Ok tt) → Leaves (Some asked) a d done
+  answer-done start puts = ends puts.only puts.later done (record {
+    usage = (λ e. cc, λ e. cc);
+    gives = λ told.
+        subst (λ (r : Run). Gives r done d) (sym (is told))
+        (record { ends_as = refl; files = empty-still puts.only; answer = puts.whole (read.stage.tells ∙ told) ∙ ap (λ xs. xs ++ text) (before told) });
+    started = λ _. record {
+      named = λ slot file. ap (λ (x : SlotState). x.name) (still puts.only slot file) ∙ start.named slot file;
+      ready = λ slot file some. ap (λ (x : SlotState). x.is_ready) (still puts.only slot (written-file slot file).0) ∙ start.ready slot file some;
+    };
+    unstarted = λ no. absurd (no refl);
+  })
+
+  pub answer-fault : (failed : Failed) → Puts Answer text b d (Err failed) → Leaves (Some asked) a d (fault failed.slot)
+  answer-fault failed puts = subst (λ x. Leaves (Some asked) a d (fault x)) (sym puts.end.0) (ends puts.only puts.later (fault Answer) (
+    (λ e. cc),
     record {
-      only = only.is ∙ (ap (λ (room : RoomState). let r : RoomState = record room { answer = d.answer } in r) settings.only.is
-          ∙ ap (λ (x : SlotState). let r : RoomState = record a { settings = x; answer = d.answer } in r) (sym slot));
-      named = ap (λ (x : SlotState). x.name) slot ∙ settings.named;
-      later = ((let f = ap (λ (x : SlotState). x.faults) slot in let l = settings.later in omega arith), (let f = ap (λ (x : SlotState). x.faults) answer in omega arith));
-      end = why;
-    }
+      other = λ e. cc;
+      rose = (let h = read.stage.later Answer in let r : Rose b.answer.faults d.answer.faults = puts.end.1 in omega arith);
+      reached = λ told. unbegun (Some asked) Answer (run_of (Some asked) a.contents).writes (empty-still puts.only) (λ e. cc);
+      answer = λ told.
+          let p = puts.part (read.stage.tells ∙ told) in
+          (p.0, p.2 ∙ ap (λ xs. xs ++ take p.0 text) (before told) ∙ sym (ap (λ (r : Run). take p.0 r.answer) (is told)));
+      settings = λ e. cc;
+      capture = λ e. cc;
+      accepted = λ told two. absurd (zero-two (sym (ap (λ (r : Run). status_of r.ending) (is told)) ∙ two));
+      header = λ told three. absurd (done-header (sym (ap (λ (r : Run). r.ending) (is told)) ∙ three));
+    },
+  ))
+    where
+      zero-two : status_of done ≡ 2 → ⊥
+      zero-two e = cc
 
-told_settings : {name : List ℕ} {a b : RoomState} {s : SettingsRead} → ReadsSettings name a b (Ok s) → IsTrue a.tells → IsTrue b.tells
-told_settings settings told = ap (λ (room : RoomState). room.tells) settings.only.is ∙ told
+      done-header : done ≡ not_capture → ⊥
+      done-header e = cc
 
-before : {name : List ℕ} {a b : RoomState} {s : SettingsRead} → IsUnused a → ReadsSettings name a b (Ok s) → IsTrue a.tells → b.answer.bytes ≡ []
-before unused settings told = ap (λ (room : RoomState). room.answer.bytes) settings.only.is ∙ unused.answer told
+-- ---- `check`
 
-pub Checks-done : {name : List ℕ} {a b : RoomState} {s : SettingsRead} {text : List ℕ} (d : RoomState) → IsUnused a → ReadsSettings name a b (Ok s) → OnlyAt Answer b d → b.answer.faults ≤ d.answer.faults →
-    text ≡ check_text (plain_settings s) → (IsTrue b.tells → d.answer.bytes ≡ b.answer.bytes ++ text) → Checks name a d done
-Checks-done {name} {a} {b} {s} {text} d unused settings only later is whole =
-    Checks-answer d done unused settings only later (λ told.
-    (plain_settings s, settings.accepted.1 told, whole (told_settings settings told) ∙ (ap (λ xs. xs ++ text) (before unused settings told) ∙ is)))
+-- its one file is open
+pub check-started : (name : List ℕ) {a b : RoomState} → Read (check name) a b → b.settings.name ≡ Some name → IsStarted (Some (check name)) b
+check-started name {a} {b} read named = record { named = names; ready = ready }
+  where
+    names : (slot : Slot) → IsFile slot → (at b slot).name ≡ word (check name) slot
+    names Settings file = named
+    names Capture file = read.alone.each Capture refl (λ e. cc)
+    names Goose file = read.alone.each Goose refl (λ e. cc)
+    names Log file = read.alone.each Log refl (λ e. cc)
+    names Note file = cc
+    names Answer file = cc
 
-pub Checks-fault : {name : List ℕ} {a b : RoomState} {s : SettingsRead} {text : List ℕ} (d : RoomState) → IsUnused a → ReadsSettings name a b (Ok s) → OnlyAt Answer b d → b.answer.faults ≤ d.answer.faults → Rose b.answer.faults d.answer.faults →
-    text ≡ check_text (plain_settings s) → (IsTrue b.tells → AppendsPart b.answer.bytes d.answer.bytes text) → Checks name a d (fault Answer)
-Checks-fault {name} {a} {b} {s} {text} d unused settings only later rose is part =
-    Checks-answer d (fault Answer) unused settings only later (
-      (let f = ap (λ (room : RoomState). room.answer.faults) settings.only.is in let r : Rose b.answer.faults d.answer.faults = rose in omega arith),
-      λ told. let p = part (told_settings settings told) in
-          (plain_settings s, settings.accepted.1 told, p.0, p.2 ∙ (ap (λ xs. xs ++ take p.0 text) (before unused settings told) ∙ ap (take p.0) is)),
-    )
+    ready : AreReady (Some (check name)) b
+    ready Settings file some = cc
+    ready Capture file some = cc
+    ready Goose file some = cc
+    ready Log file some = cc
+    ready Note file some = cc
+    ready Answer file some = cc
 
 zones-append : (xs ys : List PlainLine) → zones_in (xs ++ ys) ≡ zones_in xs + zones_in ys
 zones-append [] ys = omega arith

@@ -7,11 +7,11 @@ use Rattle.room_io.specs.declared.room.Slot.TheVariants.{Settings, Capture, Note
 use Rattle.capture_feed.specs.Records.{Records}
 use Rattle.capture_feed.specs.Captures.{records}
 use Rattle.relay_settings.specs.Settings.{PlainSettings}
+use Rattle.settings_read.specs.Accepted.{accepted}
 use Rattle.relay_tool.specs.Endings.{status_of, note_of, fault, no_memory, not_capture, done}
-use Rattle.relay_tool.specs.Words.{Names, Asked, replay, check, form}
-use Rattle.relay_tool.specs.Unbuilt.{replayable}
+use Rattle.relay_tool.specs.Words.{Names, Asked, replay, form}
 use Rattle.relay_tool.specs.Run.{Run, run_of, content_of, all_writes, most_capture}
-use Rattle.relay_tool.specs.Files.{IsWritten, Reaches, IsNamed, IsUnstarted, HasSettingsAlone, IsStarted}
+use Rattle.relay_tool.specs.Files.{IsWritten, Reaches, AreNamed, IsUnstarted, HasSettingsAlone, IsStarted}
 
 -- the note is a front of this text, and all of it where the count of Note did not rise
 pub record IsNoted (text : List ℕ) (old new : RoomState) : Type 0 where
@@ -27,7 +27,7 @@ pub record IsFaultAtHeader (names : Names) (old new : RoomState) : Type 0 where
 -- What was taken of the capture, and what is written of its records.
 pub record IsReached (names : Names) (old new : RoomState) : Type 0 where
   pub settings : PlainSettings
-  pub accepted : replayable (content_of old.contents names.settings) ≡ Ok settings
+  pub accepted : accepted (content_of old.contents names.settings) ≡ Ok settings
   pub taken : List ℕ
   pub long : 24 ≤ length taken
   pub is : content_of old.contents names.capture ≡ taken ++ new.capture.bytes
@@ -35,24 +35,22 @@ pub record IsReached (names : Names) (old new : RoomState) : Type 0 where
   pub records : records taken most_capture ≡ Some found
   pub written : IsWritten (all_writes settings found.bodies) new
 
--- A fault of the capture behind its header: both outputs are open and hold all that is written of the records that were taken.
+-- A fault of the capture behind its header: all files are open, and the outputs hold all that is written of the records that were taken.
 pub record IsFaultAtRecord (names : Names) (old new : RoomState) : Type 0 where
-  pub started : IsStarted names new
+  pub started : IsStarted (Some (replay names)) new
+  pub ready : IsTrue new.capture.is_ready
   pub reached : IsTrue old.tells → IsReached names old new
 
 abbrev pub CaptureFault : Option Asked → RoomState → RoomState → Type 0
 CaptureFault (Some (replay names)) old new = IsFaultAtHeader names old new ⊎ IsFaultAtRecord names old new
-CaptureFault (Some (check settings)) old new = ⊥
-CaptureFault None old new = ⊥
+CaptureFault asked old new = ⊥
 
--- a fault ended the run that this is without faults
-pub record IsFaulted (asked : Option Asked) (run : Run) (old new : RoomState) : Type 0 where
-  pub slot : Slot
+-- a call of this slot failed in the run that this is without faults
+pub record FailsAt (asked : Option Asked) (slot : Slot) (run : Run) (old new : RoomState) : Type 0 where
   pub other : slot ≢ Note
   pub rose : Rose (at old slot).faults (at new slot).faults
-  pub note : IsTrue old.tells → IsNoted (note_of (fault slot)) old new
-  -- one order of writes: both files stand at one place of it
-  pub reached : IsTrue old.tells → Reaches slot run.writes new
+  -- one order of writes: all files stand at one place of it
+  pub reached : IsTrue old.tells → Reaches asked slot run.writes new
   pub answer : IsTrue old.tells → (n : ℕ) × (new.answer.bytes ≡ take n run.answer)
   pub settings : slot ≡ Settings → HasSettingsAlone new
   pub capture : slot ≡ Capture → CaptureFault asked old new
@@ -60,30 +58,22 @@ pub record IsFaulted (asked : Option Asked) (run : Run) (old new : RoomState) : 
   pub accepted : IsTrue old.tells → status_of run.ending ≡ 2 → slot ≡ Settings
   pub header : IsTrue old.tells → run.ending ≡ not_capture → (slot ≡ Settings) ⊎ (slot ≡ Capture)
 
+pub record IsFaulted (asked : Option Asked) (run : Run) (old new : RoomState) : Type 0 where
+  pub slot : Slot
+  pub fails : FailsAt asked slot run old new
+  pub note : IsTrue old.tells → IsNoted (note_of (fault slot)) old new
+
 -- want of memory ended it, before the capture or an output was opened
 pub record IsOutOfMemory (asked : Option Asked) (old new : RoomState) : Type 0 where
   pub form : IsSome asked
   pub unopened : HasSettingsAlone new
-  pub note : IsTrue old.tells → IsNoted (note_of no_memory) old new
   pub answer : IsTrue old.tells → new.answer.bytes ≡ []
 
 -- no fault came but of Note
 abbrev pub IsQuiet : RoomState → RoomState → Type 0
 IsQuiet old new = (slot : Slot) → slot ≢ Note → Rose (at old slot).faults (at new slot).faults → ⊥
 
--- each file that was opened has its own word as name, and a file that the command doesn't name has none
-abbrev pub AreNamed : Option Asked → RoomState → Type 0
-AreNamed None room = (room.settings.name ≡ None) × HasSettingsAlone room
-AreNamed (Some (check settings)) room = IsNamed room.settings.name settings × HasSettingsAlone room
-AreNamed (Some (replay names)) room = IsNamed room.settings.name names.settings × IsNamed room.capture.name names.capture × IsNamed room.goose.name names.goose × IsNamed room.log.name names.log
-
--- all files of the command are open
-abbrev pub IsStartedAs : Option Asked → RoomState → Type 0
-IsStartedAs None room = ⊥
-IsStartedAs (Some (check settings)) room = room.settings.name ≡ Some settings
-IsStartedAs (Some (replay names)) room = IsStarted names room
-
--- the statuses at which a replay has opened its outputs
+-- the statuses at which a run has opened its outputs
 abbrev pub IsEnd : ℕ → Type 0
 IsEnd status = list_any (λ s. s == status) (0 ∷ 4 ∷ 5 ∷ 8 ∷ []) ≡ true
 
@@ -103,8 +93,9 @@ pub record AnswersTo (asked : Option Asked) (old new : RoomState) (status : ℕ)
   pub answer : IsWhole old status → new.answer.bytes ≡ (run_of asked old.contents).answer
   pub fault : status ≡ 6 → IsFaulted asked (run_of asked old.contents) old new
   pub memory : status ≡ 7 → IsOutOfMemory asked old new
+  pub memory_note : status ≡ 7 → IsTrue old.tells → IsNoted (note_of no_memory) old new
   -- which files were opened, and by which names
-  pub started : IsEnd status → IsStartedAs asked new
+  pub started : IsEnd status → IsStarted asked new
   pub unstarted : (IsEnd status → ⊥) → status ≢ 6 → IsUnstarted new
   pub named : AreNamed asked new
   pub unready : (slot : Slot) → IsFile slot → IsOutput slot → (at new slot).name ≡ None → (at new slot).is_ready ≡ false

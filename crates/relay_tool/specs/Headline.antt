@@ -10,8 +10,8 @@ use Rattle.capture_feed.specs.Written.{header_bytes}
 use Rattle.relay_settings.specs.Settings.{PlainSettings}
 use Rattle.relay_tool.specs.Endings.{status_of}
 use Rattle.relay_tool.specs.Words.{Names, replay, form}
-use Rattle.relay_tool.specs.Unbuilt.{replayable}
-use Rattle.relay_tool.specs.Output.{out}
+use Rattle.settings_read.specs.Accepted.{accepted}
+use Rattle.relay_tool.specs.Output.{heard_items, out}
 use Rattle.relay_tool.specs.Parts.{LinesAreApart, MalformedAddsItsLine}
 use Rattle.relay_tool.specs.Run.{content_of, ending_at, most_capture}
 use Rattle.relay_tool.specs.Files.{written}
@@ -21,16 +21,16 @@ use Rattle.relay_tool.specs.Answers.{IsQuiet}
 pub record IsReplayOf (words : List (List ℕ)) (settings : PlainSettings) (found : Records) (old : RoomState) : Type 0 where
   pub names : Names
   pub asked : form words ≡ Some (replay names)
-  pub accepted : replayable (content_of old.contents names.settings) ≡ Ok settings
+  pub accepted : accepted (content_of old.contents names.settings) ≡ Ok settings
   pub capture : records (content_of old.contents names.capture) most_capture ≡ Some found
 
 pub record IsScalarOutput (settings : PlainSettings) (found : Records) (new : RoomState) (status : ℕ) : Type 0 where
   pub ended : status ≡ status_of (ending_at found.stop (length found.bodies))
   -- exactly the scalar definition's, byte for byte
-  pub log : new.log.bytes ≡ written Log (out settings found.bodies)
-  pub goose : new.goose.bytes ≡ header_bytes ++ written Goose (out settings found.bodies)
+  pub log : new.log.bytes ≡ written Log (out (heard_items settings) found.bodies)
+  pub goose : new.goose.bytes ≡ header_bytes ++ written Goose (out (heard_items settings) found.bodies)
   pub apart : LinesAreApart settings found.bodies
-  pub malformed : MalformedAddsItsLine settings
+  pub malformed : MalformedAddsItsLine (heard_items settings)
 
 -- in a room that tells content, where no call failed but of Note and memory was enough
 abbrev pub IsHeadline : List (List ℕ) → RoomState → RoomState → ℕ → Type 0

@@ -1,13 +1,11 @@
--- What a part of a run writes, and how that composes.
-use Rattle.std.specs.Prelude.{◌≡◌, ℕ, ◌≤◌, IsTrue, List, ◌++◌, Some, Result, OnOk, IfErr}
-use Rattle.room_io.specs.Room.{RoomState, SlotState, at, Rose, IsOutput, IsFile}
+-- What a part of a run does to the room, and what it writes.
+use Rattle.std.specs.Prelude.{◌≡◌, ℕ, ◌≤◌, Bool, false, ◌||◌, IsTrue, List, ◌++◌, Some, Result, OnOk, IfErr}
+use Rattle.room_io.specs.Room.{RoomState, SlotState, at, Rose, OnlyAt, StaysOpen, AppendsPart}
 use Rattle.room_io.specs.declared.room.Slot.{Slot}
-use Rattle.room_io.specs.declared.room.Slot.TheVariants.{Goose, Log}
-use Rattle.relay_tool.specs.Endings.{Ending, done, usage, refused, not_capture, cut, damaged, too_long, fault, no_memory}
-use Rattle.relay_tool.specs.Ends.{ending_of}
+use Rattle.room_io.specs.declared.room.Slot.TheVariants.{Capture}
 use Rattle.relay_tool.specs.Output.{Item}
-use Rattle.relay_tool.specs.Files.{written, front, slot_after}
-use Rattle.relay_tool.specs.declared.end.End.{End}
+use Rattle.relay_tool.specs.Files.{is_slot, is_written, IsWrittenFile, written, front, slot_after}
+use Rattle.relay_tool.specs.declared.put.Failed.{Failed}
 
 -- an open slot that was read or written at most
 pub record OnlyUsed (old new : SlotState) : Type 0 where
@@ -15,16 +13,27 @@ pub record OnlyUsed (old new : SlotState) : Type 0 where
   pub ready : new.is_ready ≡ old.is_ready
   pub later : old.faults ≤ new.faults
 
--- nothing was done but writes of the two output files
-pub record OnlyWrites (old new : RoomState) : Type 0 where
-  pub others : new ≡ record old { goose = new.goose; log = new.log }
-  pub goose : OnlyUsed old.goose new.goose
-  pub log : OnlyUsed old.log new.log
+-- these slots were read or written at most, and nothing else was done
+pub record OnlyUses (used : Slot → Bool) (old new : RoomState) : Type 0 where
+  pub tells : new.tells ≡ old.tells
+  pub contents : new.contents ≡ old.contents
+  pub others : (slot : Slot) → used slot ≡ false → at new slot ≡ at old slot
+  pub each : (slot : Slot) → OnlyUsed (at old slot) (at new slot)
+
+-- nothing but writes of output files
+abbrev pub OnlyWrites : RoomState → RoomState → Type 0
+OnlyWrites old new = OnlyUses is_written old new
+
+-- nothing but reads of the capture and writes of output files
+abbrev pub is_worked : Slot → Bool
+is_worked slot = is_slot slot Capture || is_written slot
+
+abbrev pub OnlyWorks : RoomState → RoomState → Type 0
+OnlyWorks old new = OnlyUses is_worked old new
 
 -- these writes were appended
 pub record Appends (items : List Item) (old new : RoomState) : Type 0 where
-  pub goose : new.goose.bytes ≡ old.goose.bytes ++ written Goose items
-  pub log : new.log.bytes ≡ old.log.bytes ++ written Log items
+  pub each : (slot : Slot) → IsWrittenFile slot → (at new slot).bytes ≡ (at old slot).bytes ++ written slot items
 
 -- a front of these writes was appended: so many whole, of the next a front, and none further; and the next is of this slot
 pub record StopsAt (slot : Slot) (items : List Item) (old new : RoomState) : Type 0 where
@@ -33,33 +42,23 @@ pub record StopsAt (slot : Slot) (items : List Item) (old new : RoomState) : Typ
   pub appended : Appends (front whole part items) old new
   pub next : slot_after whole items ≡ Some slot
 
--- a fault of this output file came
-pub record Faults (slot : Slot) (old new : RoomState) : Type 0 where
-  pub output : IsOutput slot
-  pub file : IsFile slot
+-- a fault of this output file came, and these writes were not all made
+pub record FailsIn (slot : Slot) (items : List Item) (old new : RoomState) : Type 0 where
+  pub output : IsWrittenFile slot
   pub rose : Rose (at old slot).faults (at new slot).faults
-
--- why some writes were not all made
-abbrev pub WritesEnd : List Item → RoomState → RoomState → Ending → Type 0
-WritesEnd items old new (fault slot) = Faults slot old new × (IsTrue old.tells → StopsAt slot items old new)
-WritesEnd items old new done = ⊥
-WritesEnd items old new usage = ⊥
-WritesEnd items old new (refused number key) = ⊥
-WritesEnd items old new not_capture = ⊥
-WritesEnd items old new (cut records) = ⊥
-WritesEnd items old new (damaged records size) = ⊥
-WritesEnd items old new (too_long records) = ⊥
-WritesEnd items old new no_memory = ⊥
+  pub stops : IsTrue old.tells → StopsAt slot items old new
 
 -- these writes were made, all at Ok and a front of them else
-pub record Makes (items : List Item) (old new : RoomState) (result : Result (Unit {0}) End) : Type 0 where
+pub record Makes (items : List Item) (old new : RoomState) (result : Result (Unit {0}) Failed) : Type 0 where
   pub only : OnlyWrites old new
   pub all : OnOk result (IsTrue old.tells → Appends items old new)
-  pub end : IfErr result (λ e. WritesEnd items old new (ending_of e))
+  pub end : IfErr result (λ e. FailsIn e.slot items old new)
 
--- nothing was done but reads of the capture and writes of the two output files
-pub record OnlyWorks (old new : RoomState) : Type 0 where
-  pub others : new ≡ record old { capture = new.capture; goose = new.goose; log = new.log }
-  pub capture : OnlyUsed old.capture new.capture
-  pub goose : OnlyUsed old.goose new.goose
-  pub log : OnlyUsed old.log new.log
+-- these bytes were appended to an output, all at Ok and a front of them else
+pub record Puts (slot : Slot) (bytes : List ℕ) (old new : RoomState) (result : Result (Unit {0}) Failed) : Type 0 where
+  pub only : OnlyAt slot old new
+  pub stays : StaysOpen slot old new
+  pub later : (at old slot).faults ≤ (at new slot).faults
+  pub whole : OnOk result (IsTrue old.tells → (at new slot).bytes ≡ (at old slot).bytes ++ bytes)
+  pub part : IsTrue old.tells → AppendsPart (at old slot).bytes (at new slot).bytes bytes
+  pub end : IfErr result (λ e. (e.slot ≡ slot) × Rose (at old slot).faults (at new slot).faults)

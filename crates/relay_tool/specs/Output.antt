@@ -1,7 +1,6 @@
 -- What is written of the records of a capture: the scalar definition. Each sample set that a line owns is told by that line's
 -- burst at the end of the line's own sample sets, and each malformed frame by one line of its own.
-use Rattle.std.specs.Prelude.{ℕ, ◌+◌, Bool, if◌then◌else◌, List, [], ◌∷◌, ◌++◌, length, take, map, filter, reverse, Option, Some, None}
-use Rattle.std.specs.Str.{bytes_eq}
+use Rattle.std.specs.Prelude.{ℕ, ◌+◌, List, [], ◌∷◌, ◌++◌, length, take, map, reverse, Option, Some, None}
 use Rattle.sample_windows.specs.Windows.{in_order}
 use Rattle.sv_frame.specs.Asdu.{PlainAsdu}
 use Rattle.sv_frame.specs.Frame.{Sv, other, bad, pdu, sv}
@@ -17,6 +16,7 @@ use Rattle.goose_publish.specs.declared.points.Send.{Send}
 use Rattle.goose_publish.specs.Frame.{frame_bytes}
 use Rattle.capture_feed.specs.Written.{record_bytes}
 use Rattle.line_relay.specs.Bursts.{PlainBurst, burst}
+use Rattle.station.specs.Told.{Told, told}
 use Rattle.room_io.specs.declared.room.Slot.{Slot}
 use Rattle.room_io.specs.declared.room.Slot.TheVariants.{Goose, Log}
 
@@ -26,19 +26,15 @@ pub record Item : Type 0 where
   pub line : Option (List ℕ)
   pub bytes : List ℕ
 
+-- ---- sample sets
+
+-- what is written of the newest of some sample sets, which stand the newest first
+abbrev pub Tells : Type 0
+Tells = List PlainAsdu → List Item
+
 -- an event of a line
 abbrev pub event_item : List ℕ → Event → Item
 event_item name event = record { slot = Log; line = Some name; bytes = line_text name event }
-
-abbrev pub malformed_item : ℕ → Reason → Item
-malformed_item number reason = record { slot = Log; line = None; bytes = line_text [] (Malformed number reason) }
-
--- a line owns the sample sets with its svID
-abbrev pub owns : PlainLine → PlainAsdu → Bool
-owns line a = bytes_eq line.sv_id a.sv_id
-
-abbrev pub own : PlainLine → List PlainAsdu → List PlainAsdu
-own line asdus = filter (λ a. owns line a) asdus
 
 -- the record of a frame, at the moment of the sample at which it is sent
 abbrev pub frame_record : At → List ℕ → List ℕ
@@ -53,22 +49,25 @@ send_items common line (Some send) =
 abbrev pub items_of : Common → PlainLine → PlainBurst → List Item
 items_of common line burst = map (event_item line.name) burst.events ++ send_items common line burst.send
 
--- what a line writes of the newest of its own sample sets
-abbrev pub burst_items : Common → PlainLine → List PlainAsdu → List Item
+-- what a line writes of the newest of its own sample sets, and of all of them, the oldest first
+abbrev pub burst_items : Common → PlainLine → Tells
 burst_items common line asdus = items_of common line (burst common line asdus)
 
--- what a line alone would write of its own sample sets, here the oldest first
 abbrev pub solo : Common → PlainLine → List PlainAsdu → List Item
 solo common line asdus = in_order (burst_items common line) [] asdus
 
--- what lines write of a sample set heard after the older ones, the newest first: the burst of the line that owns it
-abbrev pub told_by : Common → PlainAsdu → List PlainAsdu → List PlainLine → List Item
-told_by common a older [] = []
-told_by common a older (line ∷ lines) = (if owns line a then burst_items common line (a ∷ own line older) else []) ++ told_by common a older lines
+abbrev pub told_items : Common → Option Told → List Item
+told_items common None = []
+told_items common (Some told) = items_of common told.line told.burst
 
-abbrev pub heard_items : PlainSettings → List PlainAsdu → List Item
-heard_items settings [] = []
-heard_items settings (a ∷ older) = told_by settings.common a older settings.lines
+-- what the lines of a replay write of a sample set: the burst of the line that owns it
+abbrev pub heard_items : PlainSettings → Tells
+heard_items settings past = told_items settings.common (told settings past)
+
+-- ---- records
+
+abbrev pub malformed_item : ℕ → Reason → Item
+malformed_item number reason = record { slot = Log; line = None; bytes = line_text [] (Malformed number reason) }
 
 -- a record is read as a frame of which at most 2048 bytes are kept
 abbrev pub reading : List ℕ → Sv
@@ -80,10 +79,10 @@ sets_of (bad reason) = []
 sets_of (pdu asdus) = asdus
 
 -- what is written of the record of this number, after the sample sets of the past
-abbrev pub frame_items : PlainSettings → ℕ → List PlainAsdu → Sv → List Item
-frame_items settings number past other = []
-frame_items settings number past (bad reason) = malformed_item number reason ∷ []
-frame_items settings number past (pdu asdus) = in_order (heard_items settings) past asdus
+abbrev pub frame_items : Tells → ℕ → List PlainAsdu → Sv → List Item
+frame_items tells number past other = []
+frame_items tells number past (bad reason) = malformed_item number reason ∷ []
+frame_items tells number past (pdu asdus) = in_order tells past asdus
 
 -- the sample sets of these records behind those of the past, the newest first
 unfoldable pub heard : List PlainAsdu → List (List ℕ) → List PlainAsdu
@@ -91,11 +90,11 @@ heard past [] = past
 heard past (body ∷ bodies) = heard (reverse (sets_of (reading body)) ++ past) bodies
 
 -- what is written of records, the first of this number
-unfoldable pub items_from : PlainSettings → ℕ → List PlainAsdu → List (List ℕ) → List Item
-items_from settings number past [] = []
-items_from settings number past (body ∷ bodies) =
-    frame_items settings number past (reading body) ++ items_from settings (number + 1) (reverse (sets_of (reading body)) ++ past) bodies
+unfoldable pub items_from : Tells → ℕ → List PlainAsdu → List (List ℕ) → List Item
+items_from tells number past [] = []
+items_from tells number past (body ∷ bodies) =
+    frame_items tells number past (reading body) ++ items_from tells (number + 1) (reverse (sets_of (reading body)) ++ past) bodies
 
 -- what is written of the records of a capture, which are numbered from 1
-abbrev pub out : PlainSettings → List (List ℕ) → List Item
-out settings bodies = items_from settings 1 [] bodies
+abbrev pub out : Tells → List (List ℕ) → List Item
+out tells bodies = items_from tells 1 [] bodies

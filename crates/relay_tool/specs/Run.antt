@@ -10,15 +10,15 @@ use Rattle.relay_settings.specs.Settings.{PlainLine, PlainSettings}
 use Rattle.settings_read.specs.Walk.{Answer, Refusal}
 use Rattle.settings_read.specs.Accepted.{accepted}
 use Rattle.relay_tool.specs.Endings.{Ending, done, usage, refused, not_capture, cut, damaged, too_long}
-use Rattle.relay_tool.specs.Words.{Asked, replay, check}
-use Rattle.relay_tool.specs.Unbuilt.{replayable}
-use Rattle.relay_tool.specs.Output.{Item, out}
+use Rattle.relay_tool.specs.Words.{Asked, replay, check, drill}
+use Rattle.relay_tool.specs.Tallies.{drill_summary}
+use Rattle.relay_tool.specs.Output.{Item, heard_items, out}
 
 pub record Run : Type 0 where
   pub ending : Ending
   -- what is written to standard output
   pub answer : List ℕ
-  -- what is written to the two output files, in this order
+  -- what is written to the output files, in this order
   pub writes : List Item
 
 -- a run that writes nothing
@@ -35,9 +35,13 @@ ending_at Cut records = cut records
 ending_at (Damaged size) records = damaged records size
 ending_at TooLong records = too_long records
 
+-- the header of the GOOSE capture
+abbrev pub header_item : Item
+header_item = record { slot = Goose; line = None; bytes = header_bytes }
+
 -- all that is written of a capture with these records
 abbrev pub all_writes : PlainSettings → List (List ℕ) → List Item
-all_writes settings bodies = record { slot = Goose; line = None; bytes = header_bytes } ∷ out settings bodies
+all_writes settings bodies = header_item ∷ out (heard_items settings) bodies
 
 -- at most 2 ^ 40 bytes of a capture are read
 abbrev pub most_capture : ℕ
@@ -73,4 +77,5 @@ content_of contents name = unwrap_or (content contents name) []
 abbrev pub run_of : Option Asked → List (List ℕ × List ℕ) → Run
 run_of None contents = ended usage
 run_of (Some (check settings)) contents = check_by (accepted (content_of contents settings))
-run_of (Some (replay names)) contents = replay_by (replayable (content_of contents names.settings)) (content_of contents names.capture)
+run_of (Some (replay names)) contents = replay_by (accepted (content_of contents names.settings)) (content_of contents names.capture)
+run_of (Some (drill seed seconds)) contents = record { ending = done; answer = drill_summary seed seconds; writes = [] }

@@ -1,35 +1,32 @@
 //! `check SETTINGS`: whether a settings file would be accepted.
-ghost use Rattle.std.specs.Prelude.{◌≡◌, ◌+◌, ◌≤◌, ◌<◌, ◌^◌, ◌++◌, length};
+ghost use Rattle.std.specs.Prelude.{◌≡◌, ◌+◌, ◌≤◌, ◌<◌, ◌^◌, ◌++◌, length, Some};
 ghost use Rattle.std.specs.Fmt.{decimal};
 ghost use Rattle.room_io.specs.Room.{IsUnused};
 ghost use Rattle.relay_settings.specs.Settings.{plain_settings, plain_lines};
 ghost use Rattle.relay_settings.specs.Ranges.{InRange};
-ghost use Rattle.relay_tool.specs.Ends.{ending_of};
+ghost use Rattle.relay_tool.specs.Endings.{done};
+ghost use Rattle.relay_tool.specs.Ends.{ending_by};
+ghost use Rattle.relay_tool.specs.Words.{check as check_of};
 ghost use Rattle.relay_tool.specs.Run.{check_text, zones_in};
-ghost use Rattle.relay_tool.specs.Steps.{Checks};
+ghost use Rattle.relay_tool.specs.Leaving.{Leaves};
 
 use crate::end::End;
-use crate::note::{Note, put, put_number, text};
+use crate::note::{Note, append, put_number, text};
+use crate::put::put;
 use crate::settings::accept_settings;
 use relay_settings::{LineSettings, Settings};
-use room_io::{Room, Slot, write_whole};
+use room_io::{Room, Slot};
 use std::alloc::Global;
 
 /// Reads the settings, and writes how many lines and zones they have to standard output.
-pub fn check<R: Room>(alloc: Global, name: &str, room: &mut R) -> End
+pub fn check<R: Room>(alloc: Global, name: &str, room: &mut R) -> Result<(), End>
     requires unused { IsUnused (R.state room.old) }
     requires short { length name.now ≤ 1024 }
-    ensures { Checks name.now (R.state room.old) (R.state room.new) (ending_of result) }
+    ensures { Leaves (Some (check_of name.now)) (R.state room.old) (R.state room.new) (ending_by (λ u. done) result) }
 {
-    let settings = match accept_settings(alloc, name, room) {
-        Ok(settings) => settings,
-        Err(end) => return end,
-    };
-    let answer = answer_of(&settings);
-    match write_whole(room, Slot::Answer, answer.as_slice()) {
-        Ok(()) => End::Done,
-        Err(_) => End::Fault(Slot::Answer),
-    }
+    let settings = accept_settings(alloc, name, room)?;
+    put(room, Slot::Answer, answer_of(&settings).as_slice())?;
+    Ok(())
 }
 
 /// How many zones the lines have in all.
@@ -50,8 +47,8 @@ fn answer_of(settings: &Settings) -> Note
 {
     let mut answer = text(b"ok ");
     put_number(&mut answer, settings.lines.len() as u64);
-    put(&mut answer, b" lines ");
+    append(&mut answer, b" lines ");
     put_number(&mut answer, zones_of(settings.lines.as_slice()));
-    put(&mut answer, b" zones\n");
+    append(&mut answer, b" zones\n");
     answer
 }

@@ -1,22 +1,32 @@
 //! The relay as a program: words and a room in, a status out.
 //!
 //! `replay SETTINGS CAPTURE GOOSE LOG` reads settings and a capture and writes the event log and a
-//! GOOSE capture; `check SETTINGS` says whether settings would be accepted. `relay` does either in a
-//! fixed order of work, and its contract is the headline (`specs/Headline.antt`) with the statuses,
-//! notes, names and contents of every end (`specs/Answers.antt`). It stands on the public contracts
-//! of the room, the feed, the settings and one line, and knows nothing of frames or samples.
+//! GOOSE capture; `check SETTINGS` says whether settings would be accepted; `drill SEED SECONDS` runs an
+//! exercise and counts what it brings. `relay` does one of them in a fixed order of work, and its contract is
+//! the headline (`specs/Headline.antt`) with the statuses, notes, names and contents of every end
+//! (`specs/Answers.antt`).
+//!
+//! Each stage of the work has a file and an error type of its own: `words`, `settings`, `files`, `run`, `put`. A
+//! command chooses a bank (`bank`, here `lines`) and its outputs, and `run` treats a capture's records for any
+//! bank. It stands on the public contracts of the room, the feed, the settings and the station, and knows
+//! nothing of how frames are read or samples are measured.
 #![tactic(auto)]
 
+mod bank;
 mod check;
 mod end;
+mod exercise;
+mod files;
 mod laws;
+mod lines;
 mod note;
-mod records;
+mod put;
 mod replay;
+mod run;
 mod settings;
+mod tally;
 mod top;
-mod unbuilt;
 mod words;
 
-pub use laws::{show_apart, show_malformed};
+pub use laws::{show_apart, show_malformed, show_parts_are_equal};
 pub use top::relay;

@@ -5,14 +5,13 @@ ghost use Rattle.relay_tool.specs.Endings.{note_of as note_of_ending, slot_text 
 ghost use Rattle.relay_tool.specs.Ends.{ending_of};
 
 use crate::end::End;
-use crate::unbuilt::key_text;
 use arrayvec::ArrayVec;
 use room_io::Slot;
 
 /// A note: at most 160 bytes, ended by a newline where it isn't empty.
 pub type Note = ArrayVec<u8, 160>;
 
-pub fn put(out: &mut Note, text: &[u8])
+pub fn append(out: &mut Note, text: &[u8])
     requires { length out.old.items + length text.now ≤ 160 }
     ensures bytes { out.new.items ≡ out.old.items ++ text.now }
     ensures long { length out.new.items ≤ length out.old.items + length text.now }
@@ -33,7 +32,7 @@ pub fn text(words: &[u8]) -> Note
     ensures { result.items ≡ words.now }
 {
     let mut note = ArrayVec::new();
-    put(&mut note, words);
+    append(&mut note, words);
     note
 }
 
@@ -43,9 +42,9 @@ fn refused(number: u8, key: &[u8]) -> Note
 {
     let mut note = text(b"settings refused ");
     put_number(&mut note, u64::from(number));
-    put(&mut note, b" ");
-    put(&mut note, key);
-    put(&mut note, b"\n");
+    append(&mut note, b" ");
+    append(&mut note, key);
+    append(&mut note, b"\n");
     note
 }
 
@@ -54,7 +53,7 @@ fn cut(records: u64) -> Note
 {
     let mut note = text(b"capture cut after ");
     put_number(&mut note, records);
-    put(&mut note, b" records\n");
+    append(&mut note, b" records\n");
     note
 }
 
@@ -63,9 +62,9 @@ fn damaged(records: u64, size: u32) -> Note
 {
     let mut note = text(b"capture damaged after ");
     put_number(&mut note, records);
-    put(&mut note, b" records length ");
+    append(&mut note, b" records length ");
     put_number(&mut note, u64::from(size));
-    put(&mut note, b"\n");
+    append(&mut note, b"\n");
     note
 }
 
@@ -74,7 +73,7 @@ fn too_long(records: u64) -> Note
 {
     let mut note = text(b"capture too long after ");
     put_number(&mut note, records);
-    put(&mut note, b" records\n");
+    append(&mut note, b" records\n");
     note
 }
 
@@ -96,8 +95,8 @@ fn fault(slot: Slot) -> Note
     ensures { result.items ≡ note_of_ending (fault slot) }
 {
     let mut note = text(b"fault ");
-    put(&mut note, slot_text(slot));
-    put(&mut note, b"\n");
+    append(&mut note, slot_text(slot));
+    append(&mut note, b"\n");
     note
 }
 
@@ -107,9 +106,10 @@ pub fn note_of(end: &End) -> Note
 {
     match end {
         End::Done => ArrayVec::new(),
-        End::Usage => text(b"usage: relay replay SETTINGS CAPTURE GOOSE LOG or check SETTINGS\n"),
+        End::Usage => text(
+            b"usage: relay replay SETTINGS CAPTURE GOOSE LOG or check SETTINGS or drill SEED SECONDS\n",
+        ),
         End::Refused { number, key } => refused(*number, key.as_str().as_bytes()),
-        End::Unbuilt(unbuilt) => refused(13, key_text(*unbuilt)),
         End::NotCapture => text(b"not a capture\n"),
         End::Cut { records } => cut(*records),
         End::Damaged { records, size } => damaged(*records, *size),

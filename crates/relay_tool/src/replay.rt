@@ -1,26 +1,25 @@
 //! `replay SETTINGS CAPTURE GOOSE LOG`: the main job, in its order of work.
-ghost use Rattle.std.specs.Prelude.{◌≡◌, ◌∷◌, [], ◌≤◌, length, true, false, None};
-ghost use Rattle.room_io.specs.Room.{at, IsReadyOut, IsReadyIn, IsUnused};
-ghost use Rattle.room_io.specs.declared.room.Slot.TheVariants.{Settings, Capture, Goose, Log};
-ghost use Rattle.capture_feed.specs.Left.{IsFresh, limit_of};
+ghost use Rattle.std.specs.Prelude.{◌≡◌, true, Some};
+ghost use Rattle.room_io.specs.Room.{IsUnused, IsReadyOut};
+ghost use Rattle.room_io.specs.declared.room.Slot.TheVariants.{Goose};
 ghost use Rattle.capture_feed.specs.Written.{header_bytes};
-ghost use Rattle.relay_tool.specs.Ends.{ending_of};
-ghost use Rattle.relay_tool.specs.Words.{are_short};
+ghost use Rattle.relay_tool.specs.Words.{are_short, replay as replay_of};
 ghost use Rattle.relay_tool.specs.Asking.{names_of_files};
-ghost use Rattle.relay_tool.specs.Output.{Item};
-ghost use Rattle.relay_tool.specs.Run.{most_capture};
-ghost use Rattle.relay_tool.specs.Making.{Makes};
-ghost use Rattle.relay_tool.specs.Steps.{OpensCapture, OpensOutputs, Replays};
+ghost use Rattle.relay_tool.specs.Ends.{ending_by};
+ghost use Rattle.relay_tool.specs.Running.{ending_of_stop};
+ghost use Rattle.relay_tool.specs.Making.{Puts};
+ghost use Rattle.relay_tool.specs.Leaving.{Leaves};
 
 use crate::end::End;
-use crate::records::treat_counted;
+use crate::files::{open_capture, open_output};
+use crate::lines::Lines;
+use crate::put::{Failed, put};
+use crate::run::{Stopped, run};
 use crate::settings::accept_settings;
-use crate::unbuilt::built_line;
 use crate::words::Files;
 use arrayvec::ArrayVec;
-use capture_feed::{Feed, FeedStop, put_header};
-use line_relay::Line;
-use room_io::{Room, Slot, write_whole};
+use capture_feed::{Feed, put_header};
+use room_io::{Room, Slot};
 use std::alloc::Global;
 use std::marker::Brand;
 use std::sync::ledger::Blank;
@@ -28,91 +27,29 @@ use std::sync::ledger::Blank;
 /// A record is asked for only while fewer bytes of the capture were taken.
 const MOST_CAPTURE: u64 = 1 << 40;
 
-/// Opens the capture and reads its header.
-fn open_capture<R: Room>(feed: &mut Feed, name: &str, room: &mut R) -> Result<(), End>
-    requires fresh { IsFresh feed.old }
-    requires limit { limit_of feed.old ≡ most_capture }
-    requires unnamed { (R.state room.old).capture.name ≡ None }
-    requires short { length name.now ≤ 1024 }
-    ensures { OpensCapture name.now (R.state room.old) (R.state room.new) feed.new result }
-{
-    match room.open_in(Slot::Capture, name) {
-        Ok(()) => {}
-        Err(_) => return Err(End::Fault(Slot::Capture)),
-    }
-    match feed.begin(room) {
-        Ok(()) => Ok(()),
-        Err(stop) => match stop {
-            FeedStop::NotCapture => Err(End::NotCapture),
-            _ => Err(End::Fault(Slot::Capture)),
-        },
-    }
-}
-
-/// Opens the two output files.
-fn open_outputs<R: Room>(files: &Files<'_>, room: &mut R) -> Result<(), End>
-    requires goose { (R.state room.old).goose.name ≡ None }
-    requires log { (R.state room.old).log.name ≡ None }
+/// The whole job: the settings, all memory, the capture's header, the outputs, the records.
+pub fn replay<R: Room>(alloc: Global, files: &Files<'_>, room: &mut R) -> Result<Stopped, End>
+    requires unused { IsUnused (R.state room.old) }
     requires short { are_short (names_of_files files.now) ≡ true }
-    ensures { OpensOutputs (names_of_files files.now) (R.state room.old) (R.state room.new) result }
+    ensures { Leaves (Some (replay_of (names_of_files files.now))) (R.state room.old) (R.state room.new) (ending_by ending_of_stop result) }
 {
-    match room.open_out(Slot::Goose, files.goose) {
-        Ok(()) => {}
-        Err(_) => return Err(End::Fault(Slot::Goose)),
-    }
-    if room.open_out(Slot::Log, files.log).is_err() {
-        return Err(End::Fault(Slot::Log));
-    }
-    Ok(())
+    let settings = accept_settings(alloc, files.settings, room)?;
+    let mut feed = Feed::new(alloc, MOST_CAPTURE)?;
+    let mut lines = Lines::new(alloc, &settings)?;
+    open_capture(&mut feed, files.capture, room)?;
+    open_output(room, Slot::Goose, files.goose)?;
+    open_output(room, Slot::Log, files.log)?;
+    put_goose_header(room)?;
+    let stopped = run::<R, Lines, Brand>(&mut feed, &mut lines, room, Blank::new(1))?;
+    Ok(stopped)
 }
 
 /// Writes the header of the GOOSE capture.
-fn write_header<R: Room>(room: &mut R) -> Result<(), End>
+fn put_goose_header<R: Room>(room: &mut R) -> Result<(), Failed>
     requires { IsReadyOut Goose (R.state room.old) }
-    ensures { let item : Item = record { slot = Goose; line = None; bytes = header_bytes } in
-        Makes (item ∷ []) (R.state room.old) (R.state room.new) result }
+    ensures { Puts Goose header_bytes (R.state room.old) (R.state room.new) result }
 {
     let mut header: ArrayVec<u8, 1064> = ArrayVec::new();
     put_header(&mut header);
-    match write_whole(room, Slot::Goose, header.as_slice()) {
-        Ok(()) => Ok(()),
-        Err(_) => Err(End::Fault(Slot::Goose)),
-    }
-}
-
-/// The whole job: the settings, all memory, the capture's header, the outputs, the records.
-pub fn replay<R: Room>(alloc: Global, files: &Files<'_>, room: &mut R) -> End
-    requires unused { IsUnused (R.state room.old) }
-    requires short { are_short (names_of_files files.now) ≡ true }
-    ensures { Replays (names_of_files files.now) (R.state room.old) (R.state room.new) (ending_of result) }
-{
-    let settings = match accept_settings(alloc, files.settings, room) {
-        Ok(settings) => settings,
-        Err(end) => return end,
-    };
-    let one = match built_line(&settings) {
-        Ok(one) => one,
-        Err(unbuilt) => return End::Unbuilt(unbuilt),
-    };
-    let mut feed = match Feed::new(alloc, MOST_CAPTURE) {
-        Ok(feed) => feed,
-        Err(_) => return End::NoMemory,
-    };
-    let mut line = match Line::new(alloc, &settings.common, one) {
-        Ok(line) => line,
-        Err(_) => return End::NoMemory,
-    };
-    match open_capture(&mut feed, files.capture, room) {
-        Ok(()) => {}
-        Err(end) => return end,
-    }
-    match open_outputs(files, room) {
-        Ok(()) => {}
-        Err(end) => return end,
-    }
-    match write_header(room) {
-        Ok(()) => {}
-        Err(end) => return end,
-    }
-    treat_counted::<R, Brand>(&mut feed, &mut line, room, Blank::new(1))
+    put(room, Slot::Goose, header.as_slice())
 }

@@ -5,10 +5,11 @@ ghost use Rattle.relay_tool.specs.Words.{form};
 ghost use Rattle.relay_tool.specs.Ends.{ending_of};
 ghost use Rattle.relay_tool.specs.Answers.{Answers};
 ghost use Rattle.relay_tool.specs.Headline.{IsHeadline};
-ghost use Rattle.relay_tool.specs.Steps.{Performs};
+ghost use Rattle.relay_tool.specs.Leaving.{Leaves};
 
 use crate::check::check;
 use crate::end::{End, status_of};
+use crate::exercise::drill;
 use crate::note::note_of;
 use crate::replay::replay;
 use crate::words::{Command, parse};
@@ -20,10 +21,10 @@ use std::alloc::Global;
 ///
 /// - 0: the input was used to its end and all was written;
 /// - 1: the words are no form;
-/// - 2: the settings are refused, or ask for what isn't built yet (refusal 13);
-/// - 3: the capture has no header of a pcap file;
+/// - 2: the settings are refused;
+/// - 3: the capture has no header;
 /// - 4: the capture ended within a record;
-/// - 5: a record's captured length is above 262,144;
+/// - 5: a record's captured length is above 262,144, or a block of a pcapng capture isn't sound;
 /// - 6: a call of the room failed;
 /// - 7: there was not enough memory, before the capture or an output was opened;
 /// - 8: a record was asked for when 2^40 bytes of the capture were taken.
@@ -42,11 +43,21 @@ pub fn relay<R: Room>(alloc: Global, words: &[String], room: &mut R) -> u8
 /// All but the note.
 fn perform<R: Room>(alloc: Global, words: &[String], room: &mut R) -> End
     requires { IsUnused (R.state room.old) }
-    ensures { Performs (form (map string_bytes words.now)) (R.state room.old) (R.state room.new) (ending_of result) }
+    ensures { Leaves (form (map string_bytes words.now)) (R.state room.old) (R.state room.new) (ending_of result) }
 {
     match parse(words) {
-        Some(Command::Replay(files)) => replay(alloc, &files, room),
-        Some(Command::Check(settings)) => check(alloc, settings, room),
+        Some(Command::Replay(files)) => match replay(alloc, &files, room) {
+            Ok(stopped) => End::from(stopped),
+            Err(end) => end,
+        },
+        Some(Command::Check(settings)) => match check(alloc, settings, room) {
+            Ok(()) => End::Done,
+            Err(end) => end,
+        },
+        Some(Command::Drill { seed, seconds }) => match drill(alloc, seed, seconds, room) {
+            Ok(()) => End::Done,
+            Err(end) => end,
+        },
         None => End::Usage,
     }
 }

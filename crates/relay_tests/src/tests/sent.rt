@@ -91,3 +91,22 @@ pub fn sent_of(alloc: Global, file: &[u8]) -> Result<Vec<Sent>, AllocError> {
     }
     Ok(all)
 }
+
+/// The records of a GOOSE file whose frames have this control block reference of 13 bytes, at most 64 records in all.
+pub fn part_of(alloc: Global, file: &[u8], reference: &[u8]) -> Result<Vec<u8>, AllocError> {
+    let mut part = Vec::new(alloc);
+    let mut place: usize = 24;
+    for _ in 0..64 {
+        if place >= file.len() {
+            return Ok(part);
+        }
+        let from = place.wrapping_add(16);
+        let to = from.wrapping_add(word(file, place.wrapping_add(8)) as usize);
+        let name = file.get(from.wrapping_add(30)..from.wrapping_add(43));
+        if name == Some(reference) {
+            part.extend_from_slice(file.get(place..to).unwrap_or(b""))?;
+        }
+        place = to;
+    }
+    Ok(part)
+}

@@ -56,40 +56,10 @@ swing_block = false
 load_block = false
 ";
 
-/// The end of the settings with a second line.
-const TWO_LINES: &str = "go_id = \"G1\"
-conf_rev = 1
+pub const USAGE: &str =
+    "usage: relay replay SETTINGS CAPTURE GOOSE LOG or check SETTINGS or drill SEED SECONDS\n";
 
-[[line]]
-name = \"L2\"
-sv_id = \"MU02\"
-conf_rev = 1
-line_r = 0
-line_x = 15000
-k0_re = 600
-k0_im = 0
-i_min = 200000
-i0_min = 100000
-dir_i2 = 100000
-mem_u = 1000000
-mem_ms = 200
-trip_min_ms = 100
-open_i = 50000
-open_ms = 20
-
-[line.goose]
-dst = \"01-0C-CD-01-00-02\"
-src = \"02-00-00-00-00-02\"
-appid = 2
-gocb_ref = \"P1/LLN0$GO$G2\"
-dat_set = \"P1/LLN0$DS1\"
-go_id = \"G1\"
-conf_rev = 1
-";
-
-const USAGE: &str = "usage: relay replay SETTINGS CAPTURE GOOSE LOG or check SETTINGS\n";
-
-static ROWS: [Row; 14] = [
+static ROWS: [Row; 13] = [
     (&CHECK, "", "", 0, "ok 1 lines 0 zones\n", ""),
     (&CHECK, GO_ID, ZONE, 0, "ok 1 lines 1 zones\n", ""),
     (
@@ -144,14 +114,6 @@ i2_share = 200
     (&CHECK, SETTINGS, "", 2, "", "settings refused 4 version\n"),
     (&REPLAY, SETTINGS, "", 2, "", "settings refused 4 version\n"),
     (&CHECK, GO_ID, LATE, 0, "ok 1 lines 1 zones\n", ""),
-    (
-        &REPLAY,
-        GO_ID,
-        TWO_LINES,
-        2,
-        "",
-        "settings refused 13 line\n",
-    ),
     (&[], "", "", 1, "", USAGE),
     (&["check"], "", "", 1, "", USAGE),
     (&["check", "none.toml"], "", "", 6, "", "fault settings\n"),

@@ -1,7 +1,7 @@
 //! Sampled values of a line before, in and after a fault, at 96 samples a cycle.
 ghost use Rattle.std.specs.Prelude.{◌≡◌, ◌<◌};
 
-use super::inputs::{Form, head_of, put_record, put_set};
+use super::inputs::{Form, PAIR, head_of, put_record, put_set};
 use relay_num::wave;
 use std::alloc::{AllocError, Global};
 
@@ -147,4 +147,28 @@ pub fn signals_of(
         }
     }
     Ok(capture)
+}
+
+/// Where the last byte of the svID stands before the end of a sample set.
+const LAST_OF_NAME: usize = 80;
+
+/// Adds the record of a frame of the two units' sample sets with this counter, of MU01 and then of MU02, which is
+/// healthy.
+pub fn put_both(
+    alloc: Global,
+    capture: &mut Vec<u8>,
+    signal: Signal,
+    counter: u16,
+) -> Result<(), AllocError> {
+    let mut frame = head_of(alloc, &PAIR)?;
+    for each in [signal, Signal::Healthy] {
+        let data = data_of(alloc, each, counter)?;
+        put_set(&mut frame, counter, &data)?;
+    }
+    let at = frame.len().wrapping_sub(LAST_OF_NAME);
+    if at < frame.len() {
+        frame[at] = 0x32;
+    }
+    let captured = u32::try_from(frame.len()).unwrap_or(0);
+    put_record(capture, false, &frame, captured)
 }

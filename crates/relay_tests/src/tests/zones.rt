@@ -98,7 +98,7 @@ const PHASES_ALONE: Text = ("version = 2", GOOSE_TABLE, PHASE_PART);
 
 /// Frames with one stNum: it, the number of the sample at which the first of them is sent, how many there
 /// are, and what they say of the trip, of the start and of the zones that operate.
-type Run = (u64, u64, usize, bool, bool, u8);
+pub type Run = (u64, u64, usize, bool, bool, u8);
 
 /// Settings, a capture, its log, the length of its GOOSE file and its frames.
 struct Row {
@@ -407,7 +407,7 @@ fn nanos_of(number: u64) -> u64 {
 }
 
 /// Whether the frames are those of these runs.
-fn expect_runs(rt: &impl Abort, sent: &[Sent], runs: &[Run]) {
+pub fn expect_runs(rt: &impl Abort, sent: &[Sent], runs: &[Run]) {
     let mut place: usize = 0;
     for (state, number, frames, trip, start, zones) in runs {
         let first = sent.get(place).copied();

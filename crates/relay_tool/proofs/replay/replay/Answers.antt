@@ -1,69 +1,76 @@
-use Rattle.std.proofs.Common.{◌∙◌, refl, sym, ap}
-use Rattle.std.proofs.lemmas.Bool.{and_parts, leb-true}
-use Rattle.room_io.specs.Room.{RoomState}
-use Rattle.relay_settings.specs.Settings.{plain_line}
-use Rattle.relay_tool.specs.Ends.{ending_of}
+use Rattle.std.proofs.Common.{refl}
+use Rattle.std.specs.Prelude.{Ok, Err, None}
+use Rattle.std.proofs.lemmas.Result.{err_from_is_err_and}
+use Rattle.room_io.specs.declared.room.Slot.TheVariants.{Goose, Log}
+use Rattle.relay_settings.specs.Settings.{plain_settings}
 use Rattle.relay_tool.specs.Asking.{names_of_files}
-use Rattle.relay_tool.specs.Alone.{alone}
-use Rattle.relay_tool.proofs.Stages.{Replays-settings, Replays-unbuilt, Replays-memory, Replays-capture, Replays-outputs, Replays-header, Replays-records, replays-by, opened}
+use Rattle.relay_tool.specs.Words.{replay}
+use Rattle.relay_tool.specs.Output.{heard_items}
+use Rattle.relay_tool.proofs.Writing.{put-made}
+use Rattle.relay_tool.proofs.Replaying.{read-by, settings-end, refuses, capture-end, begun, output-end, output-open, all-open, header-end, fault-end, stops-end}
 use Rattle.relay_tool.proofs.replay.replay.Goals as goal
 
-pub built_line-requires : goal.built_line-requires
-built_line-requires g c = c.in-Ok.ensures.accepted.0
+pub returns-in_err-settings : goal.returns-in_err-settings
+returns-in_err-settings g c =
+    let n = names_of_files c.args.files.now in
+    let p = err_from_is_err_and c.from_residual.result c.from_residual.ensures.1 in
+    rw (p.1, p.2) (settings-end (replay n) n.settings c.in_err-settings.field-0.0 (read-by (replay n) n.settings refl c.requires.unused (record { unopened = g.met.R.Room.unopened c.accept_settings.new.room }) c.in_err-settings.ensures) (refuses n (g.R.Room.state c.args.room.now)) c.in_err-settings.ensures.end)
 
-pub returns-in-Err : goal.returns-in-Err
-returns-in-Err g c = Replays-settings (names_of_files c.args.files.now) _ c.in-Err.end c.requires.unused c.in-Err.ensures
+pub returns-in_err-open_capture : goal.returns-in_err-open_capture
+returns-in_err-open_capture g c =
+    let n = names_of_files c.args.files.now in
+    let s = plain_settings c.in_ok-settings.settings in
+    let read = read-by (replay n) n.settings refl c.requires.unused (record { unopened = g.met.R.Room.unopened c.accept_settings.new.room }) c.in_ok-settings.ensures in
+    let p = err_from_is_err_and c.from_residual-in_err-open_capture.result c.from_residual-in_err-open_capture.ensures.1 in
+    rw (p.1, p.2) (capture-end n s c.in_err-open_capture.field-0.0 read (λ told. c.in_ok-settings.ensures.accepted.1 told) (record { unopened = g.met.R.Room.unopened c.open_capture.new.room }) c.in_err-open_capture.ensures)
 
-pub returns-in-Err-built_line : goal.returns-in-Err-built_line
-returns-in-Err-built_line g c =
-    Replays-unbuilt (names_of_files c.args.files.now) _ c.in-Ok.settings c.in-Err-built_line.unbuilt c.requires.unused c.in-Ok.ensures c.in-Err-built_line.ensures.unbuilt
+pub returns-in_err-open_output : goal.returns-in_err-open_output
+returns-in_err-open_output g c =
+    let n = names_of_files c.args.files.now in
+    let s = plain_settings c.in_ok-settings.settings in
+    let read = read-by (replay n) n.settings refl c.requires.unused (record { unopened = g.met.R.Room.unopened c.accept_settings.new.room }) c.in_ok-settings.ensures in
+    let before = begun n s read (λ told. c.in_ok-settings.ensures.accepted.1 told) (record { unopened = g.met.R.Room.unopened c.open_capture.new.room }) c.in_ok-settings.ensures c.in_ok-open_capture.ensures in
+    let p = err_from_is_err_and c.from_residual-in_err-open_output.result c.from_residual-in_err-open_output.ensures.1 in
+    rw (p.1, p.2) (output-end n Goose n.goose c.in_err-open_output.field-0.0 refl refl before c.in_err-open_output.ensures)
 
-pub returns-in-Err-new : goal.returns-in-Err-new
-returns-in-Err-new g c = Replays-memory (names_of_files c.args.files.now) _ c.in-Ok.settings c.requires.unused c.in-Ok.ensures
+pub returns-in_err-open_output-2 : goal.returns-in_err-open_output-2
+returns-in_err-open_output-2 g c =
+    let n = names_of_files c.args.files.now in
+    let s = plain_settings c.in_ok-settings.settings in
+    let read = read-by (replay n) n.settings refl c.requires.unused (record { unopened = g.met.R.Room.unopened c.accept_settings.new.room }) c.in_ok-settings.ensures in
+    let before = begun n s read (λ told. c.in_ok-settings.ensures.accepted.1 told) (record { unopened = g.met.R.Room.unopened c.open_capture.new.room }) c.in_ok-settings.ensures c.in_ok-open_capture.ensures in
+    let p = err_from_is_err_and c.from_residual-in_err-open_output-2.result c.from_residual-in_err-open_output-2.ensures.1 in
+    rw (p.1, p.2) (output-end n Log n.log c.in_err-open_output-2.field-0.0 refl refl (output-open n Goose n.goose refl refl before c.in_ok-open_output.ensures) c.in_err-open_output-2.ensures)
 
-pub returns-in-Err-new-2 : goal.returns-in-Err-new-2
-returns-in-Err-new-2 g c = Replays-memory (names_of_files c.args.files.now) _ c.in-Ok.settings c.requires.unused c.in-Ok.ensures
+pub returns-in_err-put_goose_header : goal.returns-in_err-put_goose_header
+returns-in_err-put_goose_header g c =
+    let n = names_of_files c.args.files.now in
+    let s = plain_settings c.in_ok-settings.settings in
+    let read = read-by (replay n) n.settings refl c.requires.unused (record { unopened = g.met.R.Room.unopened c.accept_settings.new.room }) c.in_ok-settings.ensures in
+    let before = begun n s read (λ told. c.in_ok-settings.ensures.accepted.1 told) (record { unopened = g.met.R.Room.unopened c.open_capture.new.room }) c.in_ok-settings.ensures c.in_ok-open_capture.ensures in
+    let opened = all-open n before c.in_ok-open_output.ensures c.in_ok-open_output-2.ensures in
+    let p = err_from_is_err_and c.from_residual-in_err-put_goose_header.result c.from_residual-in_err-put_goose_header.ensures.1 in
+    rw (p.1, p.2) (header-end n _ c.in_err-put_goose_header.field-0.0 opened (put-made Goose None (Err c.in_err-put_goose_header.field-0.0) refl c.in_err-put_goose_header.ensures))
 
-pub open_capture-requires-clause-short : goal.open_capture-requires-clause-short
-open_capture-requires-clause-short g c = leb-true _ _ (and_parts _ _ (and_parts _ _ c.requires.short).1).0
-
-pub returns-in-Err-open_capture : goal.returns-in-Err-open_capture
-returns-in-Err-open_capture g c =
-    Replays-capture (names_of_files c.args.files.now) _ c.in-Err-open_capture.end (alone c.in-Ok.settings.common (plain_line c.in-Ok-built_line.one.now)) c.requires.unused c.in-Ok.ensures
-    (replays-by (names_of_files c.args.files.now) c.in-Ok.settings c.in-Ok-built_line.one.now c.in-Ok.ensures c.in-Ok-built_line.ensures.built.0 c.in-Ok-built_line.ensures.built.1) c.in-Err-open_capture.ensures
-
-pub returns-in-Err-open_outputs : goal.returns-in-Err-open_outputs
-returns-in-Err-open_outputs g c =
-    Replays-outputs (names_of_files c.args.files.now) _ c.in-Err-open_outputs.end (alone c.in-Ok.settings.common (plain_line c.in-Ok-built_line.one.now)) c.requires.unused c.in-Ok.ensures
-    (replays-by (names_of_files c.args.files.now) c.in-Ok.settings c.in-Ok-built_line.one.now c.in-Ok.ensures c.in-Ok-built_line.ensures.built.0 c.in-Ok-built_line.ensures.built.1) c.in-Ok-open_capture.ensures c.in-Err-open_outputs.ensures
-
-pub returns-in-Err-write_header : goal.returns-in-Err-write_header
-returns-in-Err-write_header g c =
-    Replays-header _ c.in-Err-write_header.end
-    (opened (names_of_files c.args.files.now) (alone c.in-Ok.settings.common (plain_line c.in-Ok-built_line.one.now)) c.requires.unused c.in-Ok.ensures
-    (replays-by (names_of_files c.args.files.now) c.in-Ok.settings c.in-Ok-built_line.one.now c.in-Ok.ensures c.in-Ok-built_line.ensures.built.0 c.in-Ok-built_line.ensures.built.1) c.in-Ok-open_capture.ensures c.in-Ok-open_outputs.ensures) c.in-Err-write_header.ensures
+pub returns-in_err-stopped : goal.returns-in_err-stopped
+returns-in_err-stopped g c =
+    let n = names_of_files c.args.files.now in
+    let s = plain_settings c.in_ok-settings.settings in
+    let read = read-by (replay n) n.settings refl c.requires.unused (record { unopened = g.met.R.Room.unopened c.accept_settings.new.room }) c.in_ok-settings.ensures in
+    let before = begun n s read (λ told. c.in_ok-settings.ensures.accepted.1 told) (record { unopened = g.met.R.Room.unopened c.open_capture.new.room }) c.in_ok-settings.ensures c.in_ok-open_capture.ensures in
+    let opened = all-open n before c.in_ok-open_output.ensures c.in_ok-open_output-2.ensures in
+    let made = put-made Goose None (Ok tt) refl c.in_ok-put_goose_header.ensures in
+    let runs = c.in_err-stopped.ensures (heard_items s) (record { settings = s; is = refl; stands = c.in_ok-lines.ensures.0 }) in
+    let p = err_from_is_err_and c.from_residual-in_err-stopped.result c.from_residual-in_err-stopped.ensures.1 in
+    rw (p.1, p.2) (fault-end n opened made _ c.in_err-stopped.field-0.0 runs)
 
 pub returns : goal.returns
 returns g c =
-    let live = c.in-Ok-open_capture.ensures.live in
-    let settings = alone c.in-Ok.settings.common (plain_line c.in-Ok-built_line.one.now) in
-    Replays-records _ (ending_of c.treat_counted.result)
-    (opened (names_of_files c.args.files.now) settings c.requires.unused c.in-Ok.ensures
-    (replays-by (names_of_files c.args.files.now) c.in-Ok.settings c.in-Ok-built_line.one.now c.in-Ok.ensures c.in-Ok-built_line.ensures.built.0 c.in-Ok-built_line.ensures.built.1) c.in-Ok-open_capture.ensures c.in-Ok-open_outputs.ensures) c.in-Ok-write_header.ensures
-    (c.treat_counted.ensures c.in-Ok.settings.common (plain_line c.in-Ok-built_line.one.now) c.in-Ok-new-2.ensures.0)
-
-pub treat_counted-requires-clause-live : goal.treat_counted-requires-clause-live
-treat_counted-requires-clause-live g c = c.in-Ok-open_capture.ensures.live.0
-
-pub treat_counted-requires-clause-capture : goal.treat_counted-requires-clause-capture
-treat_counted-requires-clause-capture g c =
-    (refl, ap (λ (room : RoomState). room.capture.is_ready) c.in-Ok-write_header.ensures.only.others ∙ (ap (λ (room : RoomState). room.capture.is_ready) c.in-Ok-open_outputs.ensures.only ∙ c.in-Ok-open_capture.ensures.ready))
-
-pub treat_counted-requires-clause-goose : goal.treat_counted-requires-clause-goose
-treat_counted-requires-clause-goose g c = (refl, c.in-Ok-write_header.ensures.only.goose.ready ∙ c.in-Ok-open_outputs.ensures.opened.1.0)
-
-pub treat_counted-requires-clause-log : goal.treat_counted-requires-clause-log
-treat_counted-requires-clause-log g c = (refl, c.in-Ok-write_header.ensures.only.log.ready ∙ c.in-Ok-open_outputs.ensures.opened.1.1)
-
-pub treat_counted-requires-clause-fresh : goal.treat_counted-requires-clause-fresh
-treat_counted-requires-clause-fresh g c = c.in-Ok-new-2.ensures.1
+    let n = names_of_files c.args.files.now in
+    let s = plain_settings c.in_ok-settings.settings in
+    let read = read-by (replay n) n.settings refl c.requires.unused (record { unopened = g.met.R.Room.unopened c.accept_settings.new.room }) c.in_ok-settings.ensures in
+    let before = begun n s read (λ told. c.in_ok-settings.ensures.accepted.1 told) (record { unopened = g.met.R.Room.unopened c.open_capture.new.room }) c.in_ok-settings.ensures c.in_ok-open_capture.ensures in
+    let opened = all-open n before c.in_ok-open_output.ensures c.in_ok-open_output-2.ensures in
+    let made = put-made Goose None (Ok tt) refl c.in_ok-put_goose_header.ensures in
+    let runs = c.in_ok-stopped.ensures (heard_items s) (record { settings = s; is = refl; stands = c.in_ok-lines.ensures.0 }) in
+    stops-end n opened made _ c.in_ok-stopped.stopped runs

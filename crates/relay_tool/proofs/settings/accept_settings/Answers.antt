@@ -1,9 +1,10 @@
 use Rattle.std.proofs.Common.{◌∙◌, arith, refl, sym, ap, subst}
 use Rattle.room_io.proofs.Rooms.{OnlyAt-trans}
 use Rattle.settings_read.specs.Accepted.{accepted}
-use Rattle.relay_tool.specs.Endings.{Ending}
-use Rattle.relay_tool.specs.Steps.{SettingsEnd}
-use Rattle.relay_tool.proofs.Opening.{accepts, settings-error, told_on}
+use Rattle.relay_tool.specs.Accepting.{SettingsEnd}
+use Rattle.relay_tool.specs.declared.settings.SettingsStop.{SettingsStop}
+use Rattle.relay_tool.proofs.Slots.{told_at}
+use Rattle.relay_tool.proofs.Accepting.{accepts, settings-error}
 use Rattle.relay_tool.proofs.settings.accept_settings.Goals as goal
 
 pub returns-in-Ok-read_settings : goal.returns-in-Ok-read_settings
@@ -16,7 +17,7 @@ returns-in-Ok-read_settings g c =
         c.in-Ok-read_settings.ensures.ranges,
         λ told.
             accepts 1048577 (g.R.Room.state c.args.room.now).contents c.args.name.now (g.R.Room.state c.open_in.new.self).settings.bytes c.in-Ok-read_up_to.text.items refl (c.in-Ok.ensures.bytes told)
-            (c.in-Ok-read_up_to.ensures.bytes (told_on c.in-Ok.ensures.only told))
+            (c.in-Ok-read_up_to.ensures.bytes (told_at c.in-Ok.ensures.only told))
             ∙ (ap accepted (sym c.as_slice.ensures.value) ∙ sym c.in-Ok-read_settings.ensures.exact),
       );
       end = tt;
@@ -29,9 +30,9 @@ returns g c =
       named = c.read_up_to.ensures.stays.name ∙ c.in-Ok.ensures.name;
       later = let a = c.in-Ok.ensures.cause.later in let b = c.read_up_to.ensures.later in omega arith;
       accepted = tt;
-      end = subst (λ (ending : Ending). SettingsEnd c.args.name.now (g.R.Room.state c.args.room.now) (g.R.Room.state c.read_up_to.new.room) ending) (sym c.end_of.ensures)
+      end = subst (λ (stop : SettingsStop). SettingsEnd c.args.name.now (g.R.Room.state c.args.room.now) (g.R.Room.state c.read_up_to.new.room) stop) (sym c.stop_of.ensures)
           (settings-error c.args.name.now (g.R.Room.state c.args.room.now) (g.R.Room.state c.read_up_to.new.room) c.in-Err-read_settings.error c.as_slice.result.now
           (λ told. accepts 1048577 (g.R.Room.state c.args.room.now).contents c.args.name.now (g.R.Room.state c.open_in.new.self).settings.bytes c.in-Ok-read_up_to.text.items refl (c.in-Ok.ensures.bytes told)
-          (c.in-Ok-read_up_to.ensures.bytes (told_on c.in-Ok.ensures.only told)) ∙ ap accepted (sym c.as_slice.ensures.value))
+          (c.in-Ok-read_up_to.ensures.bytes (told_at c.in-Ok.ensures.only told)) ∙ ap accepted (sym c.as_slice.ensures.value))
           c.in-Err-read_settings.ensures.exact);
     }

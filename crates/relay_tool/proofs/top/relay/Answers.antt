@@ -3,7 +3,7 @@ use Rattle.std.specs.Prelude.{string_bytes}
 use Rattle.relay_tool.specs.Ends.{ending_of}
 use Rattle.relay_tool.specs.Words.{form}
 use Rattle.relay_tool.specs.Answers.{IsNoted, Answers}
-use Rattle.relay_tool.proofs.Ending.{noted, ends, note-kept}
+use Rattle.relay_tool.proofs.Ending.{noted, answers}
 use Rattle.relay_tool.proofs.Heading.{headline}
 use Rattle.relay_tool.proofs.top.relay.Goals as goal
 
@@ -14,11 +14,10 @@ returns g c =
     let old = g.R.Room.state c.args.room.now in
     let mid = g.R.Room.state c.perform-end.new.room in
     let new = g.R.Room.state c.write_whole.new.room in
-    let kept = note-kept asked ending old mid c.perform-end.ensures in
-    let answers : Answers (map string_bytes c.args.words.now) old new c.status_of.result =
+    let work = c.perform-end.ensures in
+    let is : Answers (map string_bytes c.args.words.now) old new c.status_of.result =
     subst (λ (status : ℕ). Answers (map string_bytes c.args.words.now) old new status) (sym c.status_of.ensures)
-    (ends asked ending old mid new c.requires (record { unopened = g.met.R.Room.unopened c.perform-end.new.room }) (record { unopened = g.met.R.Room.unopened c.write_whole.new.room })
-    c.perform-end.ensures c.write_whole.ensures.only c.write_whole.ensures.cause.later
+    (answers asked old mid new (record { unopened = g.met.R.Room.unopened c.write_whole.new.room }) c.write_whole.ensures.only c.write_whole.ensures.cause.later ending work
     (λ told. subst (λ text. IsNoted text old new) (c.as_slice.ensures.value ∙ c.note_of.ensures)
-    (noted c.write_whole.result c.as_slice.result.now old mid new kept.1 (c.requires.note told) (kept.0 ∙ told) c.write_whole.ensures.whole c.write_whole.ensures.part c.write_whole.ensures.cause.failed))) in
-    record { answers = answers; headline = headline (map string_bytes c.args.words.now) old new c.status_of.result answers }
+    (noted c.write_whole.result c.as_slice.result.now old mid new work.note (c.requires.note told) (work.tells ∙ told) c.write_whole.ensures.whole c.write_whole.ensures.part c.write_whole.ensures.cause.failed))) in
+    record { answers = is; headline = headline (map string_bytes c.args.words.now) old new c.status_of.result is }

@@ -1,0 +1,455 @@
+-- The ends of `replay`, and of what it shares with other commands.
+use Rattle.std.proofs.Common.{◌≡◌, ◌≢◌, ◌∙◌, inl, inr, ℕ, Bool, false, IsTrue, List, [], ◌∷◌, ◌++◌, length, refl, sym, ap, subst, arith, append_assoc, append-nil, length-append}
+use Rattle.std.specs.Prelude.{Option, None, Some, Result, Ok, Err, is_some}
+use Rattle.std.proofs.lemmas.Bool.{cases_Bool}
+use Rattle.room_io.specs.Room.{RoomState, SlotState, at, Rose, IsFile, IsUnused}
+use Rattle.room_io.specs.declared.room.Slot.{Slot}
+use Rattle.room_io.specs.declared.room.Slot.TheVariants.{Settings, Capture, Goose, Log, Note, Answer}
+use Rattle.capture_feed.specs.Records.{Records, Stop, Whole, Damaged, Cut, TooLong}
+use Rattle.capture_feed.specs.Captures.{records}
+use Rattle.capture_feed.specs.Left.{found, Begins}
+use Rattle.capture_feed.specs.declared.feed.Feed.{Feed}
+use Rattle.relay_settings.specs.Settings.{PlainSettings}
+use Rattle.relay_settings.specs.declared.types.Settings.{Settings as SettingsRead}
+use Rattle.settings_read.specs.Walk.{Refusal, refused as refusal}
+use Rattle.settings_read.specs.Accepted.{accepted}
+use Rattle.relay_tool.specs.Endings.{Ending, status_of, done, refused, not_capture, cut, damaged, too_long, fault, no_memory}
+use Rattle.relay_tool.specs.Words.{Names, Asked, replay, word}
+use Rattle.relay_tool.specs.Output.{Item, heard_items, out}
+use Rattle.relay_tool.specs.Run.{Run, refused_run, run_of, replay_by, records_run, content_of, ending_at, header_item, all_writes, most_capture}
+use Rattle.relay_tool.specs.Files.{IsWritten, IsWrittenFile, AreReady, Reaches, IsUnstarted, HasSettingsAlone, IsStarted, is_slot, is_written, written, front}
+use Rattle.relay_tool.specs.Making.{OnlyUses, Appends, StopsAt, FailsIn, Makes}
+use Rattle.relay_tool.specs.Leaving.{Gives, EndsAs, Leaves}
+use Rattle.relay_tool.specs.Accepting.{ReadsSettings, SettingsEnd, settings_ending}
+use Rattle.relay_tool.specs.Opening.{OpensCapture, CaptureEnd, capture_ending, OpensOutput}
+use Rattle.relay_tool.specs.Running.{Runs, StopsAsFound, BreaksOff, ending_of_stop}
+use Rattle.relay_tool.specs.declared.settings.SettingsStop.{SettingsStop}
+use Rattle.relay_tool.specs.declared.settings.SettingsStop.TheVariants as stops
+use Rattle.relay_tool.specs.declared.files.CaptureStop.{CaptureStop}
+use Rattle.relay_tool.specs.declared.files.CaptureStop.TheVariants as captures
+use Rattle.relay_tool.specs.declared.put.Failed.{Failed}
+use Rattle.relay_tool.specs.declared.run.Stopped.{Stopped}
+use Rattle.relay_tool.specs.declared.run.Stopped.TheVariants as stopped
+use Rattle.relay_tool.proofs.Slots.{kept-at, same-slot, clash}
+use Rattle.relay_tool.proofs.Writing.{OnlyUses-refl, Appends-more, FailsIn-lift, Appends-nothing}
+use Rattle.relay_tool.proofs.Staging.{Staged, Laws, staged-none, staged-at, staged-uses, unused-name, written-file, nothing, unbegun, front-all, alone-unstarted}
+
+-- ---- the settings
+
+-- the settings were read, and nothing else was done
+pub record Read (asked : Asked) (a b : RoomState) : Type 0 where
+  pub unused : IsUnused a
+  pub stage : Staged (Some asked) a b
+  pub alone : HasSettingsAlone b
+  pub empty : IsWritten [] b
+
+pub read-by : (asked : Asked) (name : List ℕ) {a b : RoomState} {r : Result SettingsRead SettingsStop} → word asked Settings ≡ Some name → IsUnused a → Laws b → ReadsSettings name a b r → Read asked a b
+read-by asked name {a} {b} {r} is unused law reads =
+    let alone : HasSettingsAlone b = record { each = λ slot file ne. ap (λ (s : SlotState). s.name) (kept-at slot reads.only (apart slot ne)) ∙ unused-name unused slot file } in
+    record {
+      unused = unused;
+      stage = staged-at (Some asked) Settings name refl is (staged-none (Some asked) unused) reads.only reads.named reads.later;
+      alone = alone;
+      empty = nothing law (alone-unstarted alone);
+    }
+  where
+    apart : (slot : Slot) → slot ≢ Settings → is_slot Settings slot ≡ false
+    apart Settings ne = absurd (ne refl)
+    apart Capture ne = refl
+    apart Goose ne = refl
+    apart Log ne = refl
+    apart Note ne = refl
+    apart Answer ne = refl
+
+answer-none : {asked : Asked} {a b : RoomState} → Read asked a b → IsTrue a.tells → b.answer.bytes ≡ []
+answer-none read told = ap (λ (s : SlotState). s.bytes) read.stage.answer ∙ read.unused.answer told
+
+pub leaves : (asked : Asked) {a h : RoomState} (ending : Ending) → Staged (Some asked) a h → EndsAs (Some asked) a h ending → Leaves (Some asked) a h ending
+leaves asked ending stage end = record { tells = stage.tells; note = stage.note; named = stage.named; later = stage.later; end = end }
+
+-- want of memory ends it
+pub memory-end : (asked : Asked) {a b : RoomState} → Read asked a b → Leaves (Some asked) a b no_memory
+memory-end asked read = leaves asked no_memory read.stage (record { form = refl; unopened = read.alone; answer = answer-none read })
+
+-- they end the run
+pub settings-end : (asked : Asked) (name : List ℕ) {a b : RoomState} (stop : SettingsStop) → Read asked a b →
+    ((r : Refusal) → accepted (content_of a.contents name) ≡ Err r → run_of (Some asked) a.contents ≡ refused_run r) → SettingsEnd name a b stop → Leaves (Some asked) a b (settings_ending stop)
+settings-end asked name {a} {b} stops.Fault read refuses end = leaves asked (fault Settings) read.stage (
+  (λ e. cc),
+  record {
+    other = λ e. cc;
+    rose = end;
+    reached = λ told. unbegun (Some asked) Settings (run_of (Some asked) a.contents).writes read.empty (λ e. cc);
+    answer = λ told. (0, answer-none read told);
+    settings = λ _. read.alone;
+    capture = λ e. cc;
+    accepted = λ _ _. refl;
+    header = λ _ _. inl refl;
+  },
+)
+settings-end asked name {a} {b} (stops.Refused number key) read refuses end = leaves asked (refused number key.bytes) read.stage (record {
+  usage = (λ e. cc, λ e. cc);
+  gives = λ told. subst (λ (r : Run). Gives r (refused number key.bytes) b) (sym (refuses (refusal number key.bytes) (end told))) (record { ends_as = refl; files = read.empty; answer = answer-none read told });
+  started = λ e. cc;
+  unstarted = λ _. alone-unstarted read.alone;
+})
+settings-end asked name stops.NoMemory read refuses end = memory-end asked read
+
+-- ---- the capture
+
+-- where the settings are accepted the run isn't refused
+not-refused : (s : PlainSettings) (o : Option Records) → status_of (records_run s o).ending ≡ 2 → ⊥
+not-refused s None e = cc
+not-refused s (Some found) e = stop found.stop e
+  where
+    stop : (x : Stop) → status_of (ending_at x (length found.bodies)) ≡ 2 → ⊥
+    stop Whole p = cc
+    stop Cut p = cc
+    stop (Damaged size) p = cc
+    stop TooLong p = cc
+
+-- and where the capture has records it is one
+not-not_capture : (x : Stop) (n : ℕ) → ending_at x n ≡ not_capture → ⊥
+not-not_capture Whole n p = cc
+not-not_capture Cut n p = cc
+not-not_capture (Damaged size) n p = cc
+not-not_capture TooLong n p = cc
+
+no-answer : (s : PlainSettings) (o : Option Records) → (records_run s o).answer ≡ []
+no-answer s None = refl
+no-answer s (Some found) = refl
+
+module _ (names : Names) where
+  abbrev asked : Asked
+  asked = replay names
+
+  abbrev Accepts : RoomState → PlainSettings → Type 0
+  Accepts a s = IsTrue a.tells → accepted (content_of a.contents names.settings) ≡ Ok s
+
+  run-by : (a : RoomState) (s : PlainSettings) → accepted (content_of a.contents names.settings) ≡ Ok s → run_of (Some asked) a.contents ≡ records_run s (records (content_of a.contents names.capture) most_capture)
+  run-by a s is = ap (λ x. replay_by x (content_of a.contents names.capture)) is
+
+  pub refuses : (a : RoomState) (r : Refusal) → accepted (content_of a.contents names.settings) ≡ Err r → run_of (Some asked) a.contents ≡ refused_run r
+  refuses a r is = ap (λ x. replay_by x (content_of a.contents names.capture)) is
+
+  -- the outputs are not opened yet
+  unopened-outputs : {a b d : RoomState} {feed : Feed} {r : Result (Unit {0}) CaptureStop} → Read asked a b → OpensCapture names.capture b d feed r → IsUnstarted d
+  unopened-outputs {a} {b} {d} read capture = record { each = go }
+    where
+      go : (slot : Slot) → IsWrittenFile slot → (at d slot).name ≡ None
+      go Settings file = cc
+      go Capture file = cc
+      go Goose file = ap (λ (s : SlotState). s.name) (kept-at Goose capture.only refl) ∙ read.alone.each Goose refl (λ e. cc)
+      go Log file = ap (λ (s : SlotState). s.name) (kept-at Log capture.only refl) ∙ read.alone.each Log refl (λ e. cc)
+      go Note file = cc
+      go Answer file = cc
+
+  stage-capture : {a b d : RoomState} {feed : Feed} {r : Result (Unit {0}) CaptureStop} → Read asked a b → OpensCapture names.capture b d feed r → Staged (Some asked) a d
+  stage-capture read capture = staged-at (Some asked) Capture names.capture refl refl read.stage capture.only capture.named capture.later
+
+  answer-still : {a h : RoomState} → IsUnused a → Staged (Some asked) a h → IsTrue a.tells → h.answer.bytes ≡ []
+  answer-still unused stage told = ap (λ (s : SlotState). s.bytes) stage.answer ∙ unused.answer told
+
+  -- it ends the run
+  pub capture-end : {a b d : RoomState} {feed : Feed} (s : PlainSettings) (stop : CaptureStop) → Read asked a b → Accepts a s → Laws d → OpensCapture names.capture b d feed (Err stop) → Leaves (Some asked) a d (capture_ending stop)
+  capture-end {a} {b} {d} s stop read by law capture = go stop capture.end
+    where
+      told_b : IsTrue a.tells → IsTrue b.tells
+      told_b told = read.stage.tells ∙ told
+
+      same : content_of b.contents names.capture ≡ content_of a.contents names.capture
+      same = ap (λ cs. content_of cs names.capture) read.stage.contents
+
+      unstarted : IsUnstarted d
+      unstarted = unopened-outputs read capture
+
+      go : (x : CaptureStop) → CaptureEnd names.capture b d x → Leaves (Some asked) a d (capture_ending x)
+      go captures.NotCapture end = leaves asked not_capture (stage-capture read capture) (record {
+        usage = (λ e. cc, λ e. cc);
+        gives = λ told.
+            subst (λ (r : Run). Gives r not_capture d) (sym (run-by a s (by told) ∙ ap (records_run s) (ap (λ xs. records xs most_capture) (sym same) ∙ (end (told_b told)).records most_capture)))
+            (record { ends_as = refl; files = nothing law unstarted; answer = answer-still read.unused (stage-capture read capture) told });
+        started = λ e. cc;
+        unstarted = λ _. unstarted;
+      })
+      go captures.Fault end = leaves asked (fault Capture) (stage-capture read capture) (
+        (λ e. cc),
+        record {
+          other = λ e. cc;
+          rose = (let h = read.stage.later Capture in let r : Rose b.capture.faults d.capture.faults = end.rose in omega arith);
+          reached = λ told. unbegun (Some asked) Capture (run_of (Some asked) a.contents).writes (nothing law unstarted) (λ e. cc);
+          answer = λ told. (0, answer-still read.unused (stage-capture read capture) told);
+          settings = λ e. cc;
+          capture = λ _. inl (record { unstarted = unstarted; taken = λ told ready. let t = end.taken (told_b told) ready in (t.0, t.1, sym same ∙ t.2) });
+          accepted = λ told two. absurd (not-refused s (records (content_of a.contents names.capture) most_capture) (sym (ap (λ (r : Run). status_of r.ending) (run-by a s (by told))) ∙ two));
+          header = λ _ _. inr refl;
+        },
+      )
+
+  -- ---- the outputs
+
+  settings-apart : (slot : Slot) → IsWrittenFile slot → is_slot slot Settings ≡ false
+  settings-apart Settings e = cc
+  settings-apart Capture e = cc
+  settings-apart Goose e = refl
+  settings-apart Log e = refl
+  settings-apart Note e = cc
+  settings-apart Answer e = cc
+
+  capture-apart : (slot : Slot) → IsWrittenFile slot → is_slot slot Capture ≡ false
+  capture-apart Settings e = cc
+  capture-apart Capture e = cc
+  capture-apart Goose e = refl
+  capture-apart Log e = refl
+  capture-apart Note e = cc
+  capture-apart Answer e = cc
+
+  -- what is known behind the capture's header
+  pub record Known (a : RoomState) (s : PlainSettings) (feed : Feed) (left : List ℕ) : Type 0 where
+    pub accepted : accepted (content_of a.contents names.settings) ≡ Ok s
+    pub begun : Begins feed (content_of a.contents names.capture) left
+    pub limit : feed.limit ≡ most_capture
+
+  -- the records of the capture that was begun
+  all-of : {a : RoomState} {s : PlainSettings} {feed : Feed} {left : List ℕ} → (k : Known a s feed left) → (more : List ℕ) → records (k.begun.prefix ++ more) most_capture ≡ Some (found feed more)
+  all-of {a} {s} {feed} k more = ap (λ n. records (k.begun.prefix ++ more) n) (sym k.limit) ∙ k.begun.all more
+
+  run-found : {a : RoomState} {s : PlainSettings} {feed : Feed} {left : List ℕ} → Known a s feed left → run_of (Some asked) a.contents ≡ records_run s (Some (found feed left))
+  run-found {a} {s} {feed} {left} k = run-by a s k.accepted ∙ ap (records_run s) (ap (λ xs. records xs most_capture) k.begun.is ∙ all-of k left)
+
+  -- the capture is open, and some outputs may be
+  pub record Begun (a h : RoomState) (s : PlainSettings) (feed : Feed) : Type 0 where
+    pub unused : IsUnused a
+    pub stage : Staged (Some asked) a h
+    pub settings : h.settings.name ≡ Some names.settings
+    pub capture : h.capture.name ≡ Some names.capture
+    pub ready : IsTrue h.capture.is_ready
+    pub empty : IsTrue a.tells → IsWritten [] h
+    pub known : IsTrue a.tells → Known a s feed h.capture.bytes
+
+  pub begun : {a b d : RoomState} {feed : Feed} {r : SettingsRead} (s : PlainSettings) → Read asked a b → Accepts a s → Laws d → ReadsSettings names.settings a b (Ok r) → OpensCapture names.capture b d feed (Ok tt) → Begun a d s feed
+  begun {a} {b} {d} {feed} s read by law reads capture = record {
+    unused = read.unused;
+    stage = stage-capture read capture;
+    settings = ap (λ (x : SlotState). x.name) (kept-at Settings capture.only refl) ∙ reads.named;
+    capture = capture.named;
+    ready = capture.ready;
+    empty = λ told. nothing law (unopened-outputs read capture);
+    known = λ told. record {
+      accepted = by told;
+      begun = subst (λ cs. Begins feed (content_of cs names.capture) d.capture.bytes) read.stage.contents (capture.begun (read.stage.tells ∙ told));
+      limit = capture.live.1;
+    };
+  }
+
+  -- an output that could not be opened ends it, or a write to one
+  fails-end : {a h : RoomState} {s : PlainSettings} {feed : Feed} (left : List ℕ) (slot : Slot) → IsUnused a → Staged (Some asked) a h → IsWrittenFile slot → Rose (at a slot).faults (at h slot).faults →
+      (IsTrue a.tells → Known a s feed left) → (IsTrue a.tells → Reaches (Some asked) slot (all_writes s (found feed left).bodies) h) → Leaves (Some asked) a h (fault slot)
+  fails-end {a} {h} {s} {feed} left slot unused stage file rose known reached = leaves asked (fault slot) stage (
+    (λ e. cc),
+    record {
+      other = λ e. streams (subst IsWrittenFile e file);
+      rose = rose;
+      reached = λ told. subst (λ (r : Run). Reaches (Some asked) slot r.writes h) (sym (run-found (known told))) (reached told);
+      answer = λ told. (0, answer-still unused stage told);
+      settings = λ e. absurd (streams-settings (subst IsWrittenFile e file));
+      capture = λ e. absurd (streams-capture (subst IsWrittenFile e file));
+      accepted = λ told two. absurd (not-refused s (Some (found feed left)) (sym (ap (λ (r : Run). status_of r.ending) (run-found (known told))) ∙ two));
+      header = λ told none. absurd (not-not_capture (found feed left).stop (length (found feed left).bodies) (sym (ap (λ (r : Run). r.ending) (run-found (known told))) ∙ none));
+    },
+  )
+    where
+      streams : IsWrittenFile Note → ⊥
+      streams e = cc
+
+      streams-settings : IsWrittenFile Settings → ⊥
+      streams-settings e = cc
+
+      streams-capture : IsWrittenFile Capture → ⊥
+      streams-capture e = cc
+
+  stage-output : {a d e : RoomState} {s : PlainSettings} {feed : Feed} {r : Result (Unit {0}) Failed} (slot : Slot) (name : List ℕ) → IsWrittenFile slot → word asked slot ≡ Some name → Begun a d s feed → OpensOutput slot name d e r → Staged (Some asked) a e
+  stage-output slot name file is before opens = staged-at (Some asked) slot name (written-file slot file).0 is before.stage opens.only opens.named opens.later
+
+  empty-output : {a d e : RoomState} {s : PlainSettings} {feed : Feed} {r : Result (Unit {0}) Failed} (slot : Slot) (name : List ℕ) → Begun a d s feed → OpensOutput slot name d e r → IsTrue a.tells → IsWritten [] e
+  empty-output {a} {d} {e} slot name before opens told = record {
+    each = λ x file. elim (cases_Bool (is_slot slot x)) [
+      | inl same ↦ subst (λ y. (at e y).bytes ≡ []) (same-slot slot x same) (opens.empty (before.stage.tells ∙ told))
+      | inr other ↦ ap (λ (y : SlotState). y.bytes) (kept-at x opens.only other) ∙ (before.empty told).each x file
+    ];
+  }
+
+  pub output-end : {a d e : RoomState} {s : PlainSettings} {feed : Feed} (slot : Slot) (name : List ℕ) (failed : Failed) → IsWrittenFile slot → word asked slot ≡ Some name → Begun a d s feed → OpensOutput slot name d e (Err failed) → Leaves (Some asked) a e (fault failed.slot)
+  output-end {a} {d} {e} {s} {feed} slot name failed file is before opens =
+      subst (λ x. Leaves (Some asked) a e (fault x)) (sym opens.end.same)
+      (fails-end d.capture.bytes slot before.unused (stage-output slot name file is before opens) file
+      (let h = before.stage.later slot in let r : Rose (at d slot).faults (at e slot).faults = opens.end.rose in omega arith)
+      before.known
+      (λ told. unbegun (Some asked) slot (all_writes s (found feed d.capture.bytes).bodies) (empty-output slot name before opens told)
+      (λ _ ready. clash (sym (ready slot file (ap is_some is)) ∙ opens.end.shut))))
+
+  pub output-open : {a d e : RoomState} {s : PlainSettings} {feed : Feed} (slot : Slot) (name : List ℕ) → IsWrittenFile slot → word asked slot ≡ Some name → Begun a d s feed → OpensOutput slot name d e (Ok tt) → Begun a e s feed
+  output-open {a} {d} {e} {s} {feed} slot name file is before opens = record {
+    unused = before.unused;
+    stage = stage-output slot name file is before opens;
+    settings = ap (λ (x : SlotState). x.name) (kept-at Settings opens.only (settings-apart slot file)) ∙ before.settings;
+    capture = ap (λ (x : SlotState). x.name) (kept-at Capture opens.only (capture-apart slot file)) ∙ before.capture;
+    ready = ap (λ (x : SlotState). x.is_ready) (kept-at Capture opens.only (capture-apart slot file)) ∙ before.ready;
+    empty = empty-output slot name before opens;
+    known = λ told. subst (λ (x : SlotState). Known a s feed x.bytes) (sym (kept-at Capture opens.only (capture-apart slot file))) (before.known told);
+  }
+
+  -- all files are open
+  pub record Opened (a f : RoomState) (s : PlainSettings) (feed : Feed) : Type 0 where
+    pub begun : Begun a f s feed
+    pub start : IsStarted (Some asked) f
+
+  pub all-open : {a d e f : RoomState} {s : PlainSettings} {feed : Feed} → Begun a d s feed → OpensOutput Goose names.goose d e (Ok tt) → OpensOutput Log names.log e f (Ok tt) → Opened a f s feed
+  all-open {a} {d} {e} {f} {s} {feed} before goose log =
+      let first = output-open Goose names.goose refl refl before goose in
+      let both = output-open Log names.log refl refl first log in
+      record { begun = both; start = record { named = named both; ready = ready } }
+    where
+      named : Begun a f s feed → (slot : Slot) → IsFile slot → (at f slot).name ≡ word asked slot
+      named both Settings file = both.settings
+      named both Capture file = both.capture
+      named both Goose file = ap (λ (x : SlotState). x.name) (kept-at Goose log.only refl) ∙ goose.named
+      named both Log file = log.named
+      named both Note file = cc
+      named both Answer file = cc
+
+      ready : AreReady (Some asked) f
+      ready Settings file some = cc
+      ready Capture file some = cc
+      ready Goose file some = ap (λ (x : SlotState). x.is_ready) (kept-at Goose log.only refl) ∙ goose.ready
+      ready Log file some = log.ready
+      ready Note file some = cc
+      ready Answer file some = cc
+
+  -- ---- what is written
+
+  -- what was appended to empty outputs
+  written-all : {e h : RoomState} (ws : List Item) → IsWritten [] e → Appends ws e h → IsWritten ws h
+  written-all {e} {h} ws empty all = record { each = λ slot file. all.each slot file ∙ ap (λ xs. xs ++ written slot ws) (empty.each slot file) }
+
+  reaches-by : {f h : RoomState} (slot : Slot) (ws : List Item) → IsWritten [] f → StopsAt slot ws f h → Reaches (Some asked) slot ws h
+  reaches-by slot ws empty stop = record { whole = stop.whole; part = stop.part; written = written-all (front stop.whole stop.part ws) empty stop.appended; next = λ _ _. stop.next }
+
+  -- the header could not be written
+  pub header-end : {a f : RoomState} {s : PlainSettings} {feed : Feed} (g : RoomState) (failed : Failed) → Opened a f s feed → Makes (header_item ∷ []) f g (Err failed) → Leaves (Some asked) a g (fault failed.slot)
+  header-end {a} {f} {s} {feed} g failed opened made =
+      let fails : FailsIn failed.slot (all_writes s (found feed f.capture.bytes).bodies) f g =
+      FailsIn-lift failed.slot [] (header_item ∷ []) (out (heard_items s) (found feed f.capture.bytes).bodies) g (OnlyUses-refl is_written f) (λ told. Appends-nothing f) made.end in
+      fails-end f.capture.bytes failed.slot opened.begun.unused (staged-uses (Some asked) refl refl opened.begun.stage made.only) fails.output
+      (let h = opened.begun.stage.later failed.slot in let r : Rose (at f failed.slot).faults (at g failed.slot).faults = fails.rose in omega arith)
+      opened.begun.known
+      (λ told. reaches-by failed.slot (all_writes s (found feed f.capture.bytes).bodies) (opened.begun.empty told) (fails.stops (opened.begun.stage.tells ∙ told)))
+
+  started-uses : {used : Slot → Bool} {f h : RoomState} → IsStarted (Some asked) f → OnlyUses used f h → IsStarted (Some asked) h
+  started-uses start only = record {
+    named = λ slot file. (only.each slot).name ∙ start.named slot file;
+    ready = λ slot file some. (only.each slot).ready ∙ start.ready slot file some;
+  }
+
+  module _ {a f g : RoomState} {s : PlainSettings} {feed : Feed} (opened : Opened a f s feed) (made : Makes (header_item ∷ []) f g (Ok tt)) where
+    stage_g : Staged (Some asked) a g
+    stage_g = staged-uses (Some asked) refl refl opened.begun.stage made.only
+
+    told_f : IsTrue a.tells → IsTrue f.tells
+    told_f told = opened.begun.stage.tells ∙ told
+
+    told_g : IsTrue a.tells → IsTrue g.tells
+    told_g told = stage_g.tells ∙ told
+
+    left : g.capture.bytes ≡ f.capture.bytes
+    left = ap (λ (x : SlotState). x.bytes) (made.only.others Capture refl)
+
+    known_g : IsTrue a.tells → Known a s feed g.capture.bytes
+    known_g told = subst (λ xs. Known a s feed xs) (sym left) (opened.begun.known told)
+
+    -- the header, and then these writes
+    header-then : (h : RoomState) (bodies : List (List ℕ)) → IsTrue a.tells → Appends (out (heard_items s) bodies) g h → IsWritten (all_writes s bodies) h
+    header-then h bodies told all = written-all (all_writes s bodies) (opened.begun.empty told) (Appends-more (made.all (told_f told)) all)
+
+    -- a write of a record failed
+    write-end : (h : RoomState) (slot : Slot) → Staged (Some asked) a h → FailsIn slot (out (heard_items s) (found feed g.capture.bytes).bodies) g h → Leaves (Some asked) a h (fault slot)
+    write-end h slot stage fails =
+        let whole : FailsIn slot (all_writes s (found feed g.capture.bytes).bodies) f h =
+        subst (λ (ws : List Item). FailsIn slot (header_item ∷ ws) f h) (append-nil (out (heard_items s) (found feed g.capture.bytes).bodies))
+        (FailsIn-lift slot (header_item ∷ []) (out (heard_items s) (found feed g.capture.bytes).bodies) [] h made.only made.all fails) in
+        fails-end g.capture.bytes slot opened.begun.unused stage fails.output
+        (let x = stage_g.later slot in let r : Rose (at g slot).faults (at h slot).faults = fails.rose in omega arith)
+        known_g
+        (λ told. reaches-by slot (all_writes s (found feed g.capture.bytes).bodies) (opened.begun.empty told) (whole.stops (told_f told)))
+
+    -- a read of the capture failed
+    read-end : (h : RoomState) (slot : Slot) → Staged (Some asked) a h → IsStarted (Some asked) h → IsTrue h.capture.is_ready → BreaksOff slot (heard_items s) (found feed) g.capture.bytes g h → Leaves (Some asked) a h (fault slot)
+    read-end h slot stage start ready breaks = subst (λ x. Leaves (Some asked) a h (fault x)) (sym breaks.capture) (leaves asked (fault Capture) stage (
+      (λ e. cc),
+      record {
+        other = λ e. cc;
+        rose = (let x = stage_g.later Capture in let r : Rose g.capture.faults h.capture.faults = breaks.rose in omega arith);
+        reached = λ told.
+            let k = known_g told in
+            let b = breaks.at (told_g told) in
+            let made_items : List Item = all_writes s (found feed b.front).bodies in
+            subst (λ (r : Run). Reaches (Some asked) Capture r.writes h) (sym (run-found k))
+            (subst (λ (items : List Item). Reaches (Some asked) Capture (header_item ∷ items) h) (sym b.more) (record {
+              whole = length made_items;
+              part = 0;
+              written = record { each = λ x file. (header-then h (found feed b.front).bodies told b.written).each x file ∙ sym (front-all x made_items b.rest) };
+              next = λ file _. cc;
+            }));
+        answer = λ told. (0, answer-still opened.begun.unused stage told);
+        settings = λ e. cc;
+        capture = λ _. inr (record {
+          started = start;
+          ready = ready;
+          reached = λ told.
+              let k = known_g told in
+              let b = breaks.at (told_g told) in
+              let len = length-append k.begun.prefix b.front in
+              record {
+                settings = s;
+                accepted = k.accepted;
+                taken = k.begun.prefix ++ b.front;
+                long = (let l = k.begun.long in omega arith);
+                is = k.begun.is ∙ (ap (λ xs. k.begun.prefix ++ xs) b.is ∙ sym (append_assoc k.begun.prefix b.front h.capture.bytes));
+                found = found feed b.front;
+                records = all-of k b.front;
+                written = header-then h (found feed b.front).bodies told b.written;
+              };
+        });
+        accepted = λ told two. absurd (not-refused s (Some (found feed g.capture.bytes)) (sym (ap (λ (r : Run). status_of r.ending) (run-found (known_g told))) ∙ two));
+        header = λ _ _. inr refl;
+      },
+    ))
+
+    -- the capture stopped
+    stop-end : (h : RoomState) (stop : Stopped) → Staged (Some asked) a h → IsStarted (Some asked) h → (IsTrue g.tells → StopsAsFound (heard_items s) (found feed g.capture.bytes) g h stop) → Leaves (Some asked) a h (ending_of_stop stop)
+    stop-end h stop stage start stops_as = go stop stops_as
+      where
+        gives : (x : Stopped) → (IsTrue g.tells → StopsAsFound (heard_items s) (found feed g.capture.bytes) g h x) → IsTrue a.tells → Gives (run_of (Some asked) a.contents) (ending_of_stop x) h
+        gives x says told =
+            let k = known_g told in
+            let w = says (told_g told) in
+            subst (λ (r : Run). Gives r (ending_of_stop x) h) (sym (run-found k))
+            (record { ends_as = sym w.ending; files = header-then h (found feed g.capture.bytes).bodies told w.written; answer = answer-still opened.begun.unused stage told })
+
+        go : (x : Stopped) → (IsTrue g.tells → StopsAsFound (heard_items s) (found feed g.capture.bytes) g h x) → Leaves (Some asked) a h (ending_of_stop x)
+        go stopped.Whole says = leaves asked done stage (record { usage = (λ e. cc, λ e. cc); gives = gives stopped.Whole says; started = λ _. start; unstarted = λ no. absurd (no refl) })
+        go (stopped.Cut n) says = leaves asked (cut n) stage (record { usage = (λ e. cc, λ e. cc); gives = gives (stopped.Cut n) says; started = λ _. start; unstarted = λ no. absurd (no refl) })
+        go (stopped.Damaged n size) says = leaves asked (damaged n size) stage (record { usage = (λ e. cc, λ e. cc); gives = gives (stopped.Damaged n size) says; started = λ _. start; unstarted = λ no. absurd (no refl) })
+        go (stopped.TooLong n) says = leaves asked (too_long n) stage (record { usage = (λ e. cc, λ e. cc); gives = gives (stopped.TooLong n) says; started = λ _. start; unstarted = λ no. absurd (no refl) })
+
+    pub stops-end : (h : RoomState) (stop : Stopped) → Runs (heard_items s) (found feed) g h (Ok stop) → Leaves (Some asked) a h (ending_of_stop stop)
+    stops-end h stop runs = stop-end h stop (staged-uses (Some asked) refl refl stage_g runs.only) (started-uses (started-uses opened.start made.only) runs.only) runs.stops
+
+    pub fault-end : (h : RoomState) (failed : Failed) → Runs (heard_items s) (found feed) g h (Err failed) → Leaves (Some asked) a h (fault failed.slot)
+    fault-end h failed runs =
+        let stage = staged-uses (Some asked) refl refl stage_g runs.only in
+        let start = started-uses (started-uses opened.start made.only) runs.only in
+        elim runs.end [
+          | inl breaks ↦ read-end h failed.slot stage start ((runs.only.each Capture).ready ∙ ((made.only.each Capture).ready ∙ opened.begun.ready)) breaks
+          | inr fails ↦ write-end h failed.slot stage fails
+        ]

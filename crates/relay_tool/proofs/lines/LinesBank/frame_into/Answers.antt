@@ -1,0 +1,9 @@
+use Rattle.station.proofs.StationLemmas.{stands-lines}
+use Rattle.relay_tool.proofs.lines.LinesBank.frame_into.Goals as goal
+
+pub returns-clause-same : goal.returns-clause-same
+returns-clause-same g c tells past stands = record {
+  settings = stands.settings;
+  is = stands.is;
+  stands = stands-lines stands.settings past _ _ c.frame_into.ensures.same_lines stands.stands;
+}

@@ -1,8 +1,0 @@
-use Rattle.std.proofs.Common.{take, map}
-use Rattle.std.specs.Prelude.{Ok}
-use Rattle.relay_tool.specs.Output.{event_item}
-use Rattle.relay_tool.specs.Making.{Makes}
-use Rattle.relay_tool.proofs.records.put_events.Given as goal
-
-abbrev pub invariant-loop-event : goal.invariant-loop-event
-invariant-loop-event g l = Makes (map (event_item l.name) (take l.event-index l.events)) (g.R.Room.state l.fn.room) (g.R.Room.state l.room) (Ok tt)
