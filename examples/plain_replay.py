@@ -3,9 +3,9 @@
 
     plain_replay.py SETTINGS CAPTURE GOOSE LOG
 
-This is not the proved program, and nothing here is proved. It is slow, and there to be held against the program, and to try
-settings that the program can't follow yet. What isn't a capture, or a settings file that the program's `check` would
-refuse, is told at the most by an error of Python's. A capture that ends within a record gives what its whole records give.
+This is not the proved program, and nothing here is proved. It is slow, and there to be held against the program. What isn't a
+capture, or a settings file that the program's `check` would refuse, is told at the most by an error of Python's. A capture that
+ends within a record gives what its whole records give.
 """
 import datetime
 import struct
