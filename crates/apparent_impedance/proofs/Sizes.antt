@@ -1,6 +1,7 @@
 -- How great an impedance becomes, as a fraction over the square of the current's size.
-use Rattle.std.proofs.Common.{◌≡◌, ℕ, ◌*◌, ◌^◌, ◌<◌, ◌≤◌, ◌*ℤ◌, ℤ, pos, arith, lit≤, unsigned_abs, FitsSigned, to_z-of_z}
-use Rattle.std.specs.Int.{w128}
+use Rattle.std.proofs.Common.{◌≡◌, ℕ, ◌*◌, ◌^◌, ◌<◌, ◌≤◌, ◌*ℤ◌, ℤ, pos, arith, lit≤, unsigned_abs, FitsSigned, to_z, of_z, to_z-of_z}
+use Rattle.std.specs.Int.{w64, w128}
+use Rattle.std.proofs.lemmas.Int.{fits_signed_from_abs}
 use Rattle.relay_num.specs.declared.Cx.{Cx}
 use Rattle.relay_num.specs.Numbers.{IsBelow, scaled, conjugate, norm}
 use Rattle.relay_num.proofs.Signed.{size-product}
@@ -33,4 +34,14 @@ exact_times k z h l =
     let fk : FitsSigned w128 k = fits_128 k 1000001 (omega arith) (lit≤ tt) in
     let fz : FitsSigned w128 z = fits_128 z (2 ^ 66) l (lit≤ tt) in
     let f : FitsSigned w128 (k *ℤ z) = fits_128 _ _ (size-product k z 1000001 (2 ^ 66) (omega arith) l) (lit≤ tt) in
+    simp to_z-of_z
+
+-- a part of a voltage times a scale fits in 64 bits
+pub exact_volts : (scale : ℕ) (z : ℤ) → scale ≤ 10000000 → unsigned_abs z < 2 ^ 32 →
+    to_z w64 (of_z w64 (to_z w64 (of_z w64 (pos scale)) *ℤ to_z w64 (of_z w64 z))) ≡ pos scale *ℤ z
+exact_volts scale z few h =
+    let size = size-product (pos scale) z 10000001 (2 ^ 32) (omega arith) h in
+    let fk : FitsSigned w64 (pos scale) = fits_signed_from_abs w64 _ (omega arith) in
+    let fz : FitsSigned w64 z = fits_signed_from_abs w64 _ (omega arith) in
+    let f : FitsSigned w64 (pos scale *ℤ z) = fits_signed_from_abs w64 _ (omega (arith, size)) in
     simp to_z-of_z

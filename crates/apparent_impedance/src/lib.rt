@@ -8,8 +8,8 @@
 
 ghost use Rattle.std.specs.Prelude.{◌≡◌, ◌^◌, ◌<◌, ◌≤◌, ◌*ℤ◌};
 ghost use Rattle.std.specs.Int.RustNames.{unsigned_abs};
-ghost use Rattle.relay_num.specs.Bounds.{sequence_bound, loop_current_bound};
-ghost use Rattle.relay_num.specs.Numbers.{IsBelow, value_of, scaled, norm};
+ghost use Rattle.relay_num.specs.Bounds.{sequence_bound, loop_current_bound, polarising_bound};
+ghost use Rattle.relay_num.specs.Numbers.{IsBelow, value_of, scaled, norm, product, conjugate};
 ghost use Rattle.apparent_impedance.specs.Impedance.{apparent, phasor_scale, loop_scale, resistance, reactance};
 
 use relay_num::{Cx, Cx128, mul_conj, norm};
@@ -86,15 +86,37 @@ pub fn apparent(scale: u32, u: Cx, i: Cx) -> Cx128
     mul_conj(times(scale, u), i)
 }
 
-/// `scale` times `u`.
+/// The product of a voltage and the conjugate of a current, exactly, as a complex power is. The voltage's parts are
+/// below 2^34 in size and the current's below 2^45.
+pub fn power(u: Cx, i: Cx) -> Cx128
+    requires u { IsBelow u polarising_bound }
+    requires i { IsBelow i loop_current_bound }
+    ensures value { value_of result ≡ product u (conjugate i) }
+    ensures size { IsBelow (value_of result) (2 ^ 80) }
+{
+    mul_conj(wide(u), i)
+}
+
+/// The same number with wide parts.
+fn wide(z: Cx) -> Cx128
+    requires { IsBelow z polarising_bound }
+    ensures { value_of result ≡ z }
+{
+    Cx128 {
+        re: i128::from(z.re),
+        im: i128::from(z.im),
+    }
+}
+
+/// `scale` times `u`; the parts fit in 64 bits.
 fn times(scale: u32, u: Cx) -> Cx128
     requires scale { scale ≤ loop_scale }
     requires u { IsBelow u sequence_bound }
     ensures { value_of result ≡ scaled scale u }
 {
-    let scale = i128::from(scale);
+    let scale = i64::from(scale);
     Cx128 {
-        re: scale * i128::from(u.re),
-        im: scale * i128::from(u.im),
+        re: i128::from(scale * u.re),
+        im: i128::from(scale * u.im),
     }
 }

@@ -1,5 +1,5 @@
 -- What the masks of formed loops say is what each zone asks of each loop.
-use Rattle.std.proofs.Common.{◌≡◌, ◌∙◌, ℕ, ◌<◌, Bool, true, false, not, ◌&&◌, refl, sym, ap, List, Option, Some, None, [], ◌∷◌}
+use Rattle.std.proofs.Common.{◌≡◌, ◌∙◌, ℕ, zero, suc, ◌<◌, arith, Bool, true, false, not, ◌&&◌, refl, sym, ap, List, Option, Some, None, [], ◌∷◌}
 use Rattle.std.specs.Prelude.{slice_get, if◌then◌else◌, unwrap_or}
 use Rattle.std.specs.Option.{option_map}
 use Rattle.std.proofs.lemmas.Nat.Bits.{bit_at-zero}
@@ -18,8 +18,9 @@ use Rattle.direction.specs.declared.Sense.{Sense}
 use Rattle.direction.specs.declared.Sense.TheVariants.{Neither}
 use Rattle.line_relay.specs.declared.measured.Measured.{Measured}
 use Rattle.line_relay.specs.declared.loops.Loops.{Loops}
+use Rattle.line_relay.specs.declared.loops.Sides.{Sides}
 use Rattle.line_relay.specs.Inside.{is_to_ground, line_impedance, loop_voltage, loop_current, loop_polarising, loop_sense, has_current, has_shape, is_asked, is_forward, is_reverse, is_load_by, is_load_blocked, is_within_zone, is_inside, holds_of}
-use Rattle.line_relay.specs.FormedLoops.{AreLoops, sense_with, pols_of, pol_at, minus_by, currents_with, candidates_of, holds_loop, is_held}
+use Rattle.line_relay.specs.FormedLoops.{AreLoops, AreSides, IsLoopOf, loop_at, sense_by, sense_with, sense_in, sense_of_minus, pols_of, pol_at, minus_by, currents_with, candidates_of, holds_formed, is_held}
 use Rattle.line_relay.specs.Decided.{inside_by, inside_masks_by}
 
 -- a zone by its place
@@ -60,10 +61,14 @@ unfolding loop_polarising
 pol_same None lp = refl
 pol_same (Some p) lp = refl
 
-minus_same : (ground enough : Bool) (m : Cx × Cx) →
-    ◌≡◌ {A = Option (Cx × Cx)} (if ground then (if enough then Some m else None) else None) (if ground && enough then Some m else None)
-minus_same true enough m = refl
-minus_same false enough m = refl
+-- the negative sequence decides for ground loops, where it is large enough
+minus_same : (line i : Cx) (pol : Option Cx) (ground enough : Bool) (m : Cx × Cx) →
+    sense_by line i pol (if ground then sense_of_minus line (if enough then Some m else None) else None)
+    ≡ direction_of line i pol (if ground && enough then Some m else None)
+minus_same line i pol true true m = refl
+minus_same line i pol true false m = refl
+minus_same line i pol false true m = refl
+minus_same line i pol false false m = refl
 
 reordered : (shape asked current swing load : Bool) →
     (not swing && ((current && asked) && (not load && shape))) ≡ (((((shape && asked) && current) && not false) && not swing) && not load)
@@ -105,37 +110,45 @@ without true true c d e f none = rw none refl
 without true false c d e f none = refl
 without false b c d e f none = refl
 
-module _ (n : ℕ) (settings : PlainLine) (m : Measured) (polarising : Option Cx) (allowing : ℕ) (loops : Loops)
-    (formed : AreLoops n settings m polarising allowing loops) (counts : allowing ≡ loop_mask (has_current n settings m)) where
+module _ (n : ℕ) (settings : PlainLine) (m : Measured) (polarising : Option Cx) (allowing : ℕ) (loops : Loops) (sides : Sides)
+    (are : AreLoops settings m polarising loops) (formed : AreSides n settings m allowing loops sides) (counts : allowing ≡ loop_mask (has_current n settings m)) where
   allowed_is : (lp : ℕ) → lp < 6 → has_bit lp allowing ≡ has_current n settings m lp
   allowed_is lp h = ap (has_bit lp) counts ∙ has_bit-loop_mask (has_current n settings m) lp h
 
+  loop_is : (lp : ℕ) → lp < 6 → IsLoopOf settings m polarising lp (loop_at loops lp)
+  loop_is zero h = are.ag
+  loop_is (suc zero) h = are.bg
+  loop_is (suc (suc zero)) h = are.cg
+  loop_is (suc (suc (suc zero))) h = are.ab
+  loop_is (suc (suc (suc (suc zero)))) h = are.bc
+  loop_is (suc (suc (suc (suc (suc zero))))) h = are.ca
+  loop_is (suc (suc (suc (suc (suc (suc lp)))))) h = absurd (omega arith)
+
   -- the sense of a loop that has the least current
-  sense_is : (lp : ℕ) → has_bit lp allowing ≡ true →
-      sense_with (line_impedance settings) (currents_with settings m) (pols_of polarising) (minus_by n settings.dir_i2 m) allowing lp ≡ loop_sense n settings m polarising lp
+  sense_is : (lp : ℕ) → lp < 6 → has_bit lp allowing ≡ true → sense_in n settings m allowing loops lp ≡ loop_sense n settings m polarising lp
   unfolding sense_with loop_sense loop_current
-  sense_is lp e =
-      rw (e, pol_same polarising lp)
-      (ap (direction_of (line_impedance settings) (item lp (currents_with settings m)) (loop_polarising polarising lp))
-      (minus_same (is_to_ground lp) (is_at_least m.current.minus n settings.dir_i2) (m.voltage.minus, m.current.minus)))
+  sense_is lp h e =
+      rw (e, (loop_is lp h).same_i, (loop_is lp h).same_pol, pol_same polarising lp)
+      (minus_same (line_impedance settings) (item lp (currents_with settings m)) (loop_polarising polarising lp)
+      (is_to_ground lp) (is_at_least m.current.minus n settings.dir_i2) (m.voltage.minus, m.current.minus))
 
-  abbrev sense_at : ℕ → Sense
-  sense_at lp = sense_with (line_impedance settings) (currents_with settings m) (pols_of polarising) (minus_by n settings.dir_i2 m) allowing lp
+  abbrev sense_of_loop : ℕ → Sense
+  sense_of_loop lp = sense_in n settings m allowing loops lp
 
-  side_by : (test : Sense → Bool) → test Neither ≡ false → (lp : ℕ) → (b : Bool) → has_bit lp allowing ≡ b →
-      test (sense_at lp) ≡ (b && test (loop_sense n settings m polarising lp))
+  side_by : (test : Sense → Bool) → test Neither ≡ false → (lp : ℕ) → lp < 6 → (b : Bool) → has_bit lp allowing ≡ b →
+      test (sense_of_loop lp) ≡ (b && test (loop_sense n settings m polarising lp))
   unfolding sense_with
-  side_by test never lp true e = ap test (sense_is lp e)
-  side_by test never lp false e = rw e never
+  side_by test never lp h true e = ap test (sense_is lp h e)
+  side_by test never lp h false e = rw e never
 
   side_is : (test : Sense → Bool) → test Neither ≡ false → (lp : ℕ) → lp < 6 →
-      test (sense_at lp) ≡ (has_current n settings m lp && test (loop_sense n settings m polarising lp))
-  side_is test never lp h = side_by test never lp (has_current n settings m lp) (allowed_is lp h)
+      test (sense_of_loop lp) ≡ (has_current n settings m lp && test (loop_sense n settings m polarising lp))
+  side_is test never lp h = side_by test never lp h (has_current n settings m lp) (allowed_is lp h)
 
   candidate_is : (dir : Dir) (lp : ℕ) → lp < 6 →
-      has_bit lp (candidates_of dir loops) ≡ (has_current n settings m lp && is_asked dir (loop_sense n settings m polarising lp))
-  candidate_is Forward lp h = ap (has_bit lp) formed.ahead ∙ has_bit-loop_mask (λ k. is_forward (sense_at k)) lp h ∙ side_is is_forward refl lp h
-  candidate_is Reverse lp h = ap (has_bit lp) formed.behind ∙ has_bit-loop_mask (λ k. is_reverse (sense_at k)) lp h ∙ side_is is_reverse refl lp h
+      has_bit lp (candidates_of dir sides) ≡ (has_current n settings m lp && is_asked dir (loop_sense n settings m polarising lp))
+  candidate_is Forward lp h = ap (has_bit lp) formed.ahead ∙ has_bit-loop_mask (λ k. is_forward (sense_of_loop k)) lp h ∙ side_is is_forward refl lp h
+  candidate_is Reverse lp h = ap (has_bit lp) formed.behind ∙ has_bit-loop_mask (λ k. is_reverse (sense_of_loop k)) lp h ∙ side_is is_reverse refl lp h
   candidate_is Unasked lp h = ap (has_bit lp) formed.with_current ∙ allowed_is lp h ∙ always (has_current n settings m lp)
     where
       always : (b : Bool) → b ≡ (b && true)
@@ -144,14 +157,14 @@ module _ (n : ℕ) (settings : PlainLine) (m : Measured) (polarising : Option Cx
 
   -- what is tested is what the zone asks
   pub inside_is : (zone : ZoneSettings) (swing : Bool) (lp : ℕ) → lp < 6 →
-      is_held loops swing zone lp ≡ is_inside n settings zone m polarising swing false lp
-  unfolding is_held holds_loop is_inside loop_voltage loop_current
+      is_held loops sides swing zone lp ≡ is_inside n settings zone m polarising swing false lp
+  unfolding is_held holds_formed is_inside loop_voltage loop_current
   inside_is zone swing lp h =
       rw (
         candidate_is zone.dir lp h,
-        formed.u,
-        formed.i,
-        formed.pols,
+        (loop_is lp h).same_u,
+        (loop_is lp h).same_i,
+        (loop_is lp h).same_pol,
         formed.is_load,
         pol_same polarising lp,
         load_same zone.load_block (is_to_ground lp) (is_load_by settings.load m),
@@ -179,9 +192,9 @@ module _ (n : ℕ) (settings : PlainLine) (m : Measured) (polarising : Option Cx
       (not (zone.swing_block && swing)) (not (is_load_blocked settings zone m lp))
       (sym (has_bit-loop_mask (has_current n settings m) lp h) ∙ ap (has_bit lp) none ∙ bit_none lp)))
 
-  pub masks_formed : (allowing : ℕ) (loops : Loops) → AreLoops n settings m polarising allowing loops → allowing ≡ loop_mask (has_current n settings m) →
-      zone_masks (λ place lp. holds_of (λ zone. is_held loops swing zone lp) settings.zones place) ≡ inside_masks_by n settings (Some m) polarising swing false
+  pub masks_formed : (allowing : ℕ) (loops : Loops) (sides : Sides) → AreLoops settings m polarising loops → AreSides n settings m allowing loops sides → allowing ≡ loop_mask (has_current n settings m) →
+      zone_masks (λ place lp. holds_of (λ zone. is_held loops sides swing zone lp) settings.zones place) ≡ inside_masks_by n settings (Some m) polarising swing false
   unfolding inside_masks_by
-  masks_formed allowing loops formed counts =
+  masks_formed allowing loops sides are formed counts =
       zone_masks-same _ (inside_by n settings (Some m) polarising swing false)
-      (λ place lp h. holds_of-same _ _ settings.zones place (λ zone. inside_is n settings m polarising allowing loops formed counts zone swing lp h))
+      (λ place lp h. holds_of-same _ _ settings.zones place (λ zone. inside_is n settings m polarising allowing loops sides are formed counts zone swing lp h))

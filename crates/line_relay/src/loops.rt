@@ -1,32 +1,39 @@
 //! The loops of a ready sample, and on which side of the relay their faults are.
-ghost use Rattle.std.specs.Prelude.{ℕ, ◌≡◌, ◌<◌, ◌≤◌, ◌+◌, ◌⊎◌, ◌^◌, [], ◌∷◌, Option, IfSome};
+ghost use Rattle.std.specs.Prelude.{ℕ, ◌≡◌, ◌<◌, ◌≤◌, ◌+◌, ◌⊎◌, ◌^◌, [], ◌∷◌, Option, None, IfSome};
 ghost use Rattle.std.specs.Option.{ForSome};
 ghost use Rattle.relay_num.specs.Numbers.{IsBelow};
 ghost use Rattle.relay_num.specs.declared.Cx.{Cx};
 ghost use Rattle.relay_settings.specs.Ranges.{IsLine};
 ghost use Rattle.relay_settings.specs.Settings.{plain_line};
-ghost use Rattle.loop_impedance.specs.Loops.{AreLoopsBelow};
+ghost use Rattle.loop_impedance.specs.Loops.{item, AreLoopsBelow};
 ghost use Rattle.loop_impedance.specs.Masks.{mask, loop_mask, has_bit};
-ghost use Rattle.line_relay.specs.Sizes.{IsMeasured, AreSmallLoops};
+ghost use Rattle.direction.specs.Torques.{direction_of};
+ghost use Rattle.line_relay.specs.Sizes.{IsMeasured};
 ghost use Rattle.line_relay.specs.Inside.{is_forward, is_reverse, is_load_by};
-ghost use Rattle.line_relay.specs.FormedLoops.{AreLoops, sense_with, pols_of, pol_at, minus_by};
+ghost use Rattle.line_relay.specs.FormedLoops.{IsLoop, AreLoops, AreSides, sense_at, sense_with, sense_of_minus, pols_of, pol_at, minus_by};
 
 use crate::measured::Measured;
-use direction::{Sense, loop_direction};
-use loop_impedance::{loop_pols, loops};
+use direction::{Sense, by_negative, loop_direction, sense_of_power};
+use loop_impedance::{LoopPairs, loop_pols, loops};
 use relay_num::{Cx, at_least_rms};
 use relay_settings::LineSettings;
 use supervise::load_blocks;
+use zone_shape::{FormedLoop, has_quad};
 
-/// The loops AG, BG, CG, AB, BC and CA of a ready sample, and the masks of those that a zone may hold.
+/// The loops of a ready sample, each with what all zones ask of it.
 #[derive(Drop)]
 pub struct Loops {
-    /// Voltages in counts of 10 mV.
-    pub u: [Cx; 6],
-    /// Compensated currents in thousandths of 1 mA.
-    pub i: [Cx; 6],
-    /// Polarising voltages in counts of 10 mV.
-    pub pols: Option<[Cx; 6]>,
+    pub ag: FormedLoop,
+    pub bg: FormedLoop,
+    pub cg: FormedLoop,
+    pub ab: FormedLoop,
+    pub bc: FormedLoop,
+    pub ca: FormedLoop,
+}
+
+/// The masks of the loops that a zone may hold.
+#[derive(Clone, Copy, Drop)]
+pub struct Sides {
     /// The loops with the least current.
     pub with_current: u8,
     /// Of these, the loops with a fault ahead.
@@ -37,41 +44,55 @@ pub struct Loops {
     pub is_load: bool,
 }
 
-/// The loops of what is measured, with this polarising voltage, of which these have the least current.
+/// The loops of what is measured, with this polarising voltage. Of those without the least current nothing more is
+/// formed, since no zone asks for them.
 pub fn form_loops(
     settings: &LineSettings,
-    n: u32,
     m: &Measured,
     polarising: Option<Cx>,
     with_current: u8,
 ) -> Loops
     requires settings { IsLine settings.now }
-    requires n { (n ≡ 80) ⊎ (n ≡ 96) }
     requires measured { IsMeasured m.now }
     requires polarising { ForSome polarising (λ p. IsBelow p (2 ^ 32)) }
-    ensures loops { AreLoops n (plain_line settings.now) m.now polarising with_current result }
-    ensures size { AreSmallLoops result }
+    ensures { AreLoops (plain_line settings.now) m.now polarising result }
 {
     let k0 = Cx {
         re: settings.k0_re,
         im: settings.k0_im,
     };
-    let line = Cx {
-        re: settings.line_r,
-        im: settings.line_x,
-    };
     let pairs = loops(&m.voltages, &m.currents, k0);
     let pols = polarising_of(polarising);
-    let minus = minus_of(n, settings.dir_i2, m);
-    let (ahead, behind) = sides(line, &pairs.i, &pols, minus, with_current);
+    let has_quad = has_quad(settings.zones.as_slice());
     Loops {
-        u: pairs.u,
-        i: pairs.i,
-        pols,
-        with_current,
-        ahead,
-        behind,
-        is_load: is_load(settings, m),
+        ag: formed(&pairs, &pols, with_current, has_quad, 0),
+        bg: formed(&pairs, &pols, with_current, has_quad, 1),
+        cg: formed(&pairs, &pols, with_current, has_quad, 2),
+        ab: formed(&pairs, &pols, with_current, has_quad, 3),
+        bc: formed(&pairs, &pols, with_current, has_quad, 4),
+        ca: formed(&pairs, &pols, with_current, has_quad, 5),
+    }
+}
+
+/// One loop of six.
+fn formed(
+    pairs: &LoopPairs,
+    pols: &Option<[Cx; 6]>,
+    with_current: u8,
+    has_quad: bool,
+    lp: usize,
+) -> FormedLoop
+    requires u { AreLoopsBelow pairs.now.u (2 ^ 31 + 1) }
+    requires i { AreLoopsBelow pairs.now.i (2 ^ 45) }
+    requires pols { ForSome pols.now (λ pols. AreLoopsBelow pols (2 ^ 34)) }
+    requires lp { lp < 6 }
+    ensures { IsLoop (item lp pairs.now.u) (item lp pairs.now.i) (pol_at pols.now lp) result }
+{
+    let pol = pol_of(pols, lp);
+    if has_bit(with_current, lp) {
+        FormedLoop::of(pairs.u[lp], pairs.i[lp], pol, has_quad)
+    } else {
+        FormedLoop::unformed(pairs.u[lp], pairs.i[lp], pol)
     }
 }
 
@@ -82,6 +103,45 @@ fn polarising_of(polarising: Option<Cx>) -> Option<[Cx; 6]>
 {
     match polarising {
         Some(p) => Some(loop_pols(p)),
+        None => None,
+    }
+}
+
+/// The sides on which the faults of these loops are, of which these have the least current.
+pub fn form_sides(
+    settings: &LineSettings,
+    n: u32,
+    m: &Measured,
+    loops: &Loops,
+    with_current: u8,
+) -> Sides
+    requires settings { IsLine settings.now }
+    requires n { (n ≡ 80) ⊎ (n ≡ 96) }
+    requires measured { IsMeasured m.now }
+    ensures { AreSides n (plain_line settings.now) m.now with_current loops.now result }
+{
+    let line = Cx {
+        re: settings.line_r,
+        im: settings.line_x,
+    };
+    let by_minus = sense_of_minus(line, minus_of(n, settings.dir_i2, m));
+    let (ahead, behind) = side_masks(line, loops, by_minus, with_current);
+    Sides {
+        with_current,
+        ahead,
+        behind,
+        is_load: is_load(settings, m),
+    }
+}
+
+/// The sense that the negative sequence gives to every ground loop, where it decides.
+fn sense_of_minus(line: Cx, minus: Option<(Cx, Cx)>) -> Option<Sense>
+    requires line { IsBelow line (2 ^ 20) }
+    requires minus { IfSome minus (λ m. IsBelow m.0 (2 ^ 32) × IsBelow m.1 (2 ^ 32)) }
+    ensures { result ≡ sense_of_minus line minus }
+{
+    match minus {
+        Some((u2, i2)) => Some(by_negative(line, u2, i2)),
         None => None,
     }
 }
@@ -113,26 +173,17 @@ fn is_load(settings: &LineSettings, m: &Measured) -> bool
 }
 
 /// The masks of the loops with a fault ahead, and of those with a fault behind.
-fn sides(
-    line: Cx,
-    i: &[Cx; 6],
-    pols: &Option<[Cx; 6]>,
-    minus: Option<(Cx, Cx)>,
-    with_current: u8,
-) -> (u8, u8)
+fn side_masks(line: Cx, loops: &Loops, by_minus: Option<Sense>, with_current: u8) -> (u8, u8)
     requires line { IsBelow line (2 ^ 20) }
-    requires i { AreLoopsBelow i.now (2 ^ 45) }
-    requires pols { ForSome pols.now (λ pols. AreLoopsBelow pols (2 ^ 34)) }
-    requires minus { ForSome minus (λ m. IsBelow m.0 (2 ^ 32) × IsBelow m.1 (2 ^ 32)) }
-    ensures ahead { result.0 ≡ loop_mask (λ lp. is_forward (sense_with line i.now pols.now minus with_current lp)) }
-    ensures behind { result.1 ≡ loop_mask (λ lp. is_reverse (sense_with line i.now pols.now minus with_current lp)) }
+    ensures ahead { result.0 ≡ loop_mask (λ lp. is_forward (sense_at line loops.now by_minus with_current lp)) }
+    ensures behind { result.1 ≡ loop_mask (λ lp. is_reverse (sense_at line loops.now by_minus with_current lp)) }
 {
-    let ag = sense_of(line, i, pols, minus, with_current, 0);
-    let bg = sense_of(line, i, pols, minus, with_current, 1);
-    let cg = sense_of(line, i, pols, minus, with_current, 2);
-    let ab = sense_of(line, i, pols, minus, with_current, 3);
-    let bc = sense_of(line, i, pols, minus, with_current, 4);
-    let ca = sense_of(line, i, pols, minus, with_current, 5);
+    let ag = sense_of(line, &loops.ag, by_minus, with_current, 0);
+    let bg = sense_of(line, &loops.bg, by_minus, with_current, 1);
+    let cg = sense_of(line, &loops.cg, by_minus, with_current, 2);
+    let ab = sense_of(line, &loops.ab, None, with_current, 3);
+    let bc = sense_of(line, &loops.bc, None, with_current, 4);
+    let ca = sense_of(line, &loops.ca, None, with_current, 5);
     let ahead = [
         is_forward(ag),
         is_forward(bg),
@@ -152,31 +203,41 @@ fn sides(
     (mask_of(ahead), mask_of(behind))
 }
 
-/// The sense of a loop; one without the least current is not asked for it.
+/// The sense of a loop, where the negative sequence gives none by its polarising voltage; one without the least current
+/// is not asked for it.
 fn sense_of(
     line: Cx,
-    i: &[Cx; 6],
-    pols: &Option<[Cx; 6]>,
-    minus: Option<(Cx, Cx)>,
+    formed: &FormedLoop,
+    by_minus: Option<Sense>,
     with_current: u8,
     lp: usize,
 ) -> Sense
     requires line { IsBelow line (2 ^ 20) }
-    requires i { AreLoopsBelow i.now (2 ^ 45) }
-    requires pols { ForSome pols.now (λ pols. AreLoopsBelow pols (2 ^ 34)) }
-    requires minus { ForSome minus (λ m. IsBelow m.0 (2 ^ 32) × IsBelow m.1 (2 ^ 32)) }
     requires lp { lp < 6 }
-    ensures { result ≡ sense_with line i.now pols.now minus with_current lp }
+    ensures { result ≡ sense_with line formed.now.i formed.now.pol by_minus with_current lp }
 {
     if !has_bit(with_current, lp) {
         return Sense::Neither;
     }
-    let by_minus = if lp < 3 { minus } else { None };
-    loop_direction(line, i[lp], pol_of(pols, lp), by_minus)
+    match by_minus {
+        Some(sense) => sense,
+        None => polarised_sense(line, formed),
+    }
+}
+
+/// The sense of a loop by its polarising voltage.
+fn polarised_sense(line: Cx, formed: &FormedLoop) -> Sense
+    requires line { IsBelow line (2 ^ 20) }
+    ensures { result ≡ direction_of line formed.now.i formed.now.pol None }
+{
+    match formed.polarised() {
+        Some(polarised) => sense_of_power(line, polarised.power()),
+        None => loop_direction(line, formed.i, formed.pol, None),
+    }
 }
 
 /// The polarising voltage of a loop, where there is one.
-pub fn pol_of(pols: &Option<[Cx; 6]>, lp: usize) -> Option<Cx>
+fn pol_of(pols: &Option<[Cx; 6]>, lp: usize) -> Option<Cx>
     requires pols { ForSome pols.now (λ pols. AreLoopsBelow pols (2 ^ 34)) }
     requires lp { lp < 6 }
     ensures pol { result ≡ pol_at pols.now lp }

@@ -2,8 +2,9 @@
 //!
 //! Reach is in milliohms, and the loop's voltage and the polarising voltage in units of 10 mV. The
 //! loop's current is in mA times 1000, as a compensated current is; so voltages stand in the product's
-//! unit (a millionth of a milliohm times an mA) once they are multiplied by 10 000 000. It stands on
-//! `relay_num` for the products, which are exact, and for the steps.
+//! unit (a millionth of a milliohm times an mA) once they are multiplied by 10 000 000. What every circle asks
+//! of a loop is formed once, as `Polarised`; a circle then takes two products of its own. It stands on
+//! `apparent_impedance` for powers, on `relay_num` for the products, which are exact, and for the steps.
 #![tactic(auto)]
 
 ghost use Rattle.std.specs.Prelude.{◌≡◌, ◌+◌};
@@ -11,11 +12,14 @@ ghost use Rattle.relay_num.specs.Bounds.{reach_bound, loop_voltage_bound, loop_c
 ghost use Rattle.relay_num.specs.Numbers.{IsBelow};
 ghost use Rattle.mho_zone.specs.Mho.{is_inside_mho};
 
-use relay_num::{Cx, Cx128, Steps, mul, mul_conj};
+use relay_num::{Cx, Steps};
 use std::sync::ledger::Ledger;
 
+mod polarised;
 #[cfg(test)]
 mod tests;
+
+pub use polarised::Polarised;
 
 /// Whether a loop of voltage `u` and current `i` is inside the circle that has the reach `z` as its
 /// diameter, with `pol` as the polarising voltage (Phadke and Thorp, Computer Relaying for Power
@@ -29,11 +33,5 @@ pub fn mho_inside<L: Ledger>(z: Cx, u: Cx, i: Cx, pol: Cx, steps: &mut Steps<L>)
     ensures inside { result ≡ is_inside_mho z u i pol }
     ensures cost { steps.new ≡ steps.old + 1 }
 {
-    steps.tick();
-    let drop = mul(z, i);
-    let left = Cx128 {
-        re: drop.re - 10_000_000 * i128::from(u.re),
-        im: drop.im - 10_000_000 * i128::from(u.im),
-    };
-    mul_conj(left, pol).re > 0
+    Polarised::of(u, i, pol).is_inside(z, steps)
 }

@@ -1,8 +1,8 @@
 -- Sizes at a quadrilateral, and what the code holds of its settings.
-use Rattle.std.proofs.Common.{◌≡◌, ◌+◌, ◌*◌, ◌^◌, ◌<◌, ◌≤◌, ◌≤ℤ◌, ℕ, ℤ, pos, neg_ℤ, ◌-ℤ◌, ◌+ℤ◌, ◌*ℤ◌, FitsSigned, to_z, of_z, to_z-of_z, ap, ◌∙◌, arith, lit≤, unsigned_abs}
+use Rattle.std.proofs.Common.{◌≡◌, ◌+◌, ◌*◌, ◌^◌, ◌<◌, ◌≤◌, ◌≤ℤ◌, ℕ, ℤ, pos, neg_ℤ, ◌-ℤ◌, ◌+ℤ◌, ◌*ℤ◌, FitsSigned, to_z, of_z, to_z-of_z, ap, ◌∙◌, arith, lit≤, unsigned_abs, refl, sym}
 use Rattle.std.specs.Int.{w64, w128}
 use Rattle.relay_num.specs.declared.Cx.{Cx}
-use Rattle.relay_num.specs.Numbers.{IsBelow, conjugate, scaled, norm}
+use Rattle.relay_num.specs.Numbers.{IsBelow, conjugate, scaled, norm, opposite}
 use Rattle.relay_num.proofs.Signed.{signed, size-product, size-sum, one_part}
 use Rattle.relay_num.proofs.Ring.{mul_comm, mul-neg}
 use Rattle.relay_num.proofs.Wide.{held, IsBelow-product, IsBelow-weaker, IsBelow-conjugate, size-norm, fits_128}
@@ -50,20 +50,20 @@ held_minus k h = omega (arith, signed)
 pub held_thousand : (k : ℤ) → unsigned_abs k ≤ 1000000 → to_z w64 (of_z w64 (pos 1000 *ℤ to_z w64 (of_z w64 k))) ≡ pos 1000 *ℤ k
 held_thousand k h = omega (arith, signed)
 
-pub held_minus_thousand : (k : ℤ) → unsigned_abs k ≤ 1000000 → to_z w64 (of_z w64 (neg_ℤ (pos 1000) *ℤ to_z w64 (of_z w64 k))) ≡ neg_ℤ (pos 1000) *ℤ k
-held_minus_thousand k h = omega (arith, signed)
-
 pub thousand_below : (k : ℤ) → unsigned_abs k ≤ 1000000 → unsigned_abs (pos 1000 *ℤ k) < 2 ^ 30
 thousand_below k h = omega (arith, size-product (pos 1000) k 1001 1000001 (omega arith) (omega arith))
-
-pub minus_thousand_below : (k : ℤ) → unsigned_abs k ≤ 1000000 → unsigned_abs (neg_ℤ (pos 1000) *ℤ k) < 2 ^ 30
-minus_thousand_below k h = omega (arith, size-product (neg_ℤ (pos 1000)) k 1001 1000001 (omega arith) (omega arith))
 
 pub size-neg : (k : ℤ) (m : ℕ) → unsigned_abs k ≤ m → unsigned_abs (neg_ℤ k) ≤ m
 size-neg k m h = omega (arith, signed)
 
 pub plus_minus : (a k y : ℤ) → a +ℤ neg_ℤ k *ℤ y ≡ a -ℤ k *ℤ y
 plus_minus a k y = ap (λ t. a +ℤ t) (mul_comm (neg_ℤ k) y ∙ mul-neg y k ∙ ap neg_ℤ (mul_comm y k))
+
+pub minus_product : (k s : ℤ) → neg_ℤ (k *ℤ s) ≡ neg_ℤ k *ℤ s
+minus_product k s = ap neg_ℤ (mul_comm k s) ∙ sym (mul-neg s k) ∙ mul_comm s (neg_ℤ k)
+
+pub minus_thousand : (k s : ℤ) → neg_ℤ (pos 1000 *ℤ k *ℤ s) ≡ neg_ℤ (pos 1000) *ℤ k *ℤ s
+minus_thousand k s = minus_product (pos 1000 *ℤ k) s ∙ ap (λ t. t *ℤ s) (minus_product (pos 1000) k)
 
 pub record Tilted (x k y : ℤ) : Type 0 where
   pub fits : FitsSigned w128 (held (pos 1000 *ℤ held x) +ℤ held (held k *ℤ held y))
@@ -80,3 +80,12 @@ tilted x k y a b c =
     let fr : FitsSigned w128 (k *ℤ y) = fits_128 _ _ right (lit≤ tt) in
     let f : FitsSigned w128 (pos 1000 *ℤ x +ℤ k *ℤ y) = fits_128 _ _ (size-sum (pos 1000 *ℤ x) (k *ℤ y) _ _ left right) (lit≤ tt) in
     record { fits = simp to_z-of_z f; is = simp to_z-of_z }
+
+neg_twice : (a : ℤ) → neg_ℤ (neg_ℤ a) ≡ a
+neg_twice a = omega (arith, signed)
+
+square_turned : (a : ℤ) → neg_ℤ a *ℤ neg_ℤ a ≡ a *ℤ a
+square_turned a = mul-neg (neg_ℤ a) a ∙ ap neg_ℤ (mul_comm (neg_ℤ a) a ∙ mul-neg a a) ∙ neg_twice (a *ℤ a)
+
+pub norm_turned : (i : Cx) → norm (opposite i) ≡ norm i
+norm_turned i = rw (square_turned i.re, square_turned i.im) refl

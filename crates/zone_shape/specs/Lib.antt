@@ -1,2 +1,3 @@
+pub mod Polarising
 pub mod Shapes
 pub mod ZoneParts

@@ -2,7 +2,8 @@
 //!
 //! The loop's voltage and the polarising voltage are counts of 10 mV, its current thousandths of 1 mA,
 //! reaches milliohms. A zone has a part for the loops to ground and one for those between phases, each with a
-//! shape of its own; a zone that looks backwards takes the opposite of the current. It stands on `mho_zone`
+//! shape of its own; a zone that looks backwards takes the opposite of the current. `FormedLoop` forms what the shapes
+//! of all zones ask of a loop once. It stands on `mho_zone`
 //! and `quad_zone` for the two shapes, on `relay_settings` for the settings, and on `relay_num` for complex
 //! numbers and counted steps.
 #![tactic(auto)]
@@ -20,11 +21,13 @@ use relay_num::{Cx, Steps, opposite};
 use relay_settings::Shape;
 use std::sync::ledger::Ledger;
 
+mod formed;
 #[cfg(test)]
 mod tests;
 mod zone;
 
-pub use zone::zone_holds;
+pub use formed::FormedLoop;
+pub use zone::{has_quad, zone_holds, zone_holds_formed};
 
 /// Whether a loop of voltage `u`, whose parts are at most 2^31 in size, and current `i`, whose parts are
 /// below 2^45, is inside the shape; `reversed` says that the zone looks backwards. A mho polarises from `pol`,

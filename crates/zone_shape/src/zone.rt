@@ -7,9 +7,9 @@ ghost use Rattle.relay_num.specs.Numbers.{IsBelow};
 ghost use Rattle.relay_settings.specs.Ranges.{IsZone, IsZonePart};
 ghost use Rattle.zone_shape.specs.ZoneParts.{part_of, is_reverse, is_in_zone};
 
-use crate::shape_holds;
+use crate::{FormedLoop, shape_holds};
 use relay_num::{Cx, Steps};
-use relay_settings::{Dir, ZonePart, ZoneSettings};
+use relay_settings::{Dir, Shape, ZonePart, ZoneSettings};
 use std::sync::ledger::Ledger;
 
 /// Whether loop `lp` of six (0 for AG, then BG, CG, AB, BC and CA) is inside the zone: AG, BG and CG have its
@@ -32,6 +32,41 @@ pub fn zone_holds<L: Ledger>(
 {
     match part_of(zone, lp) {
         Some(part) => shape_holds(&part.shape, is_reverse(zone.dir), u, i, pol, steps),
+        None => false,
+    }
+}
+
+/// Whether loop `lp`, of which is formed what all zones ask, is inside the zone, as `zone_holds` says.
+pub fn zone_holds_formed<L: Ledger>(
+    zone: &ZoneSettings,
+    lp: usize,
+    formed: &FormedLoop,
+    steps: &mut Steps<L>,
+) -> bool
+    requires zone { IsZone zone.now }
+    ensures zone { result ≡ is_in_zone zone.now lp formed.now.u formed.now.i formed.now.pol }
+    ensures cost { steps.new ≤ steps.old + 1 }
+{
+    match part_of(zone, lp) {
+        Some(part) => formed.is_within(&part.shape, is_reverse(zone.dir), steps),
+        None => false,
+    }
+}
+
+/// Whether some zone has a quadrilateral.
+pub fn has_quad(zones: &[ZoneSettings]) -> bool {
+    zones
+        .iter()
+        .any(|zone| is_quad(&zone.ground) || is_quad(&zone.phase))
+}
+
+/// Whether the part is a quadrilateral.
+fn is_quad(part: &Option<ZonePart>) -> bool {
+    match part {
+        Some(part) => match part.shape {
+            Shape::Mho(_) => false,
+            Shape::Quad(_) => true,
+        },
         None => false,
     }
 }

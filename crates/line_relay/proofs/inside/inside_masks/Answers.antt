@@ -21,4 +21,4 @@ returns-clause-masks g c =
     rw (c.in-Some.is, ← c.measure-m.ensures.value, c.if-blown.false)
     (c.five_masks.ensures.masks ∙ rw c.as_slice.ensures.value
     (masks_formed c.args.n (plain_line c.args.settings.now) c.measure-m.result c.args.polarising c.args.swing
-    c.with_current-with_current.result c.form_loops-loops.result c.form_loops-loops.ensures.loops c.with_current-with_current.ensures))
+    c.with_current-with_current.result c.form_loops-loops.result c.form_sides-sides.result c.form_loops-loops.ensures c.form_sides-sides.ensures c.with_current-with_current.ensures))

@@ -1,0 +1,28 @@
+use Rattle.std.proofs.Common.{◌≡◌, ◌<◌, ◌*◌, ◌^◌, ◌∙◌, ℤ, pos, ◌-ℤ◌, ap, sym, arith, lit≤, FitsSigned, to_z-of_z}
+use Rattle.std.specs.Int.{w128}
+use Rattle.std.specs.Int.RustNames.{int_lt, unsigned_abs}
+use Rattle.relay_num.specs.declared.Cx.{Cx}
+use Rattle.relay_num.specs.Numbers.{IsBelow, value_of, product, scaled, conjugate}
+use Rattle.relay_num.proofs.Wide.{IsBelow-product, IsBelow-weaker, IsBelow-conjugate}
+use Rattle.apparent_impedance.proofs.Powers.{Less, less, torque_of_drop, difference_of_drop}
+use Rattle.mho_zone.proofs.polarised.Polarised.is_inside.Goals as goal
+
+-- Re(P conj(I) conj(Z)) is small
+torque_below : (power z : Cx) → IsBelow power (2 ^ 80) → IsBelow z (2 ^ 20) → unsigned_abs (product power (conjugate z)).re < 2 ^ 125
+torque_below power z h k = (IsBelow-weaker _ _ (2 ^ 125) (IsBelow-product power (conjugate z) (2 ^ 80) (2 ^ 20) h (IsBelow-conjugate z (2 ^ 20) k)) (lit≤ tt)).re
+
+pub overflow_sub-result : goal.overflow_sub-result
+overflow_sub-result g c =
+    let size = torque_below (value_of c.args.self.now.power) c.args.z c.args.self.now.power_size c.requires.z in
+    let small : unsigned_abs c.mul_conj.result.re < 2 ^ 125 = rw (ap (λ (z : Cx). z.re) c.mul_conj.ensures) size in
+    (less c.mul_conj.result.re c.args.self.now.along small (omega (arith, c.args.self.now.along_size))).fits
+
+pub returns-clause-inside : goal.returns-clause-inside
+returns-clause-inside g c u i p formed =
+    let size = torque_below (value_of c.args.self.now.power) c.args.z c.args.self.now.power_size c.requires.z in
+    let torque : c.mul_conj.result.re ≡ (product (product c.args.z i) (conjugate p)).re =
+    ap (λ (z : Cx). z.re) c.mul_conj.ensures ∙ ap (λ (w : Cx). (product w (conjugate c.args.z)).re) formed.power ∙ torque_of_drop p i c.args.z in
+    let small : unsigned_abs c.mul_conj.result.re < 2 ^ 125 = rw (ap (λ (z : Cx). z.re) c.mul_conj.ensures) size in
+    ap (int_lt (pos 0)) ((less c.mul_conj.result.re c.args.self.now.along small (omega (arith, c.args.self.now.along_size))).is
+    ∙ ap (λ (t : ℤ). t -ℤ c.args.self.now.along) torque ∙ ap (λ (t : ℤ). (product (product c.args.z i) (conjugate p)).re -ℤ t) formed.along
+    ∙ sym (difference_of_drop (product c.args.z i) (scaled 10000000 u) p))

@@ -1,0 +1,170 @@
+//! A loop with what the shapes of all zones ask of it.
+ghost use Rattle.std.specs.Prelude.{◌≡◌};
+ghost use Rattle.std.specs.Option.{ForSome};
+ghost use Rattle.relay_num.specs.Bounds.{loop_voltage_bound, loop_current_bound, polarising_bound};
+ghost use Rattle.relay_num.specs.Numbers.{IsBelow};
+ghost use Rattle.quad_zone.specs.Impedances.{IsImpedance};
+ghost use Rattle.zone_shape.specs.Polarising.{IsPolarisedBy};
+
+use crate::towards;
+use mho_zone::{Polarised, mho_inside};
+use quad_zone::{LoopImpedance, quad_inside};
+use relay_num::{Cx, Steps};
+use relay_settings::{QuadSettings, Shape};
+use std::sync::ledger::Ledger;
+
+/// A loop, and what the shapes of all zones ask of it, formed once. Where that wasn't formed a shape forms it itself.
+#[derive(Clone, Copy, Drop)]
+pub struct FormedLoop {
+    /// The voltage in counts of 10 mV, its parts at most 2^31 in size.
+    pub u: Cx,
+    /// The current in thousandths of 1 mA, its parts below 2^45.
+    pub i: Cx,
+    /// The polarising voltage in counts of 10 mV, its parts below 2^34.
+    pub pol: Option<Cx>,
+    impedance: Option<LoopImpedance>,
+    polarised: Option<Polarised>,
+    ghost u_size: { IsBelow u loop_voltage_bound },
+    ghost i_size: { IsBelow i loop_current_bound },
+    ghost pol_size: { ForSome pol (λ p. IsBelow p polarising_bound) },
+    ghost impedance_is: { ForSome impedance (IsImpedance u i) },
+    ghost polarised_is: { ForSome polarised (IsPolarisedBy u i pol) },
+}
+
+impl FormedLoop {
+    ghost use Rattle.std.specs.Prelude.{◌≡◌, ◌≤◌, ◌+◌};
+    ghost use Rattle.std.specs.Option.{ForSome};
+    ghost use Rattle.relay_num.specs.Bounds.{reach_bound, loop_voltage_bound, loop_current_bound, polarising_bound};
+    ghost use Rattle.relay_num.specs.Numbers.{IsBelow};
+    ghost use Rattle.relay_settings.specs.declared.types.Shape.TheVariants.{Mho, Quad};
+    ghost use Rattle.relay_settings.specs.Ranges.{IsShape, IsQuad};
+    ghost use Rattle.zone_shape.specs.Polarising.{IsPolarisedBy};
+    ghost use Rattle.zone_shape.specs.Shapes.{has_shape};
+
+    /// A loop that few zones or none will ask for: nothing is formed.
+    pub fn unformed(u: Cx, i: Cx, pol: Option<Cx>) -> FormedLoop
+        requires u { IsBelow u loop_voltage_bound }
+        requires i { IsBelow i loop_current_bound }
+        requires pol { ForSome pol (λ p. IsBelow p polarising_bound) }
+        ensures u { result.u ≡ u }
+        ensures i { result.i ≡ i }
+        ensures pol { result.pol ≡ pol }
+    {
+        FormedLoop {
+            u,
+            i,
+            pol,
+            impedance: None,
+            polarised: None,
+        }
+    }
+
+    /// A loop with what circles ask of it, and where `has_quad` says so what quadrilaterals do.
+    pub fn of(u: Cx, i: Cx, pol: Option<Cx>, has_quad: bool) -> FormedLoop
+        requires u { IsBelow u loop_voltage_bound }
+        requires i { IsBelow i loop_current_bound }
+        requires pol { ForSome pol (λ p. IsBelow p polarising_bound) }
+        ensures u { result.u ≡ u }
+        ensures i { result.i ≡ i }
+        ensures pol { result.pol ≡ pol }
+    {
+        FormedLoop {
+            u,
+            i,
+            pol,
+            impedance: impedance_of(u, i, has_quad),
+            polarised: polarised_of(u, i, pol),
+        }
+    }
+
+    /// What circles ask, where it was formed.
+    pub fn polarised(&self) -> &Option<Polarised>
+        ensures { ForSome result.now (IsPolarisedBy self.now.u self.now.i self.now.pol) }
+    {
+        &self.polarised
+    }
+
+    /// Whether the loop is inside the shape, as `shape_holds` says, and in at most one step as there.
+    pub fn is_within<L: Ledger>(&self, shape: &Shape, reversed: bool, steps: &mut Steps<L>) -> bool
+        requires shape { IsShape shape.now }
+        ensures shape { result ≡ has_shape shape.now reversed self.now.u self.now.i self.now.pol }
+        ensures cost { steps.new ≤ steps.old + 1 }
+    {
+        match shape {
+            Shape::Mho(reach) => self.is_in_circle(*reach, reversed, steps),
+            Shape::Quad(quad) => self.is_in_quad(quad, reversed, steps),
+        }
+    }
+
+    /// Whether the loop is inside the circle of this reach; without a polarising voltage none is.
+    #[inline(always)]
+    fn is_in_circle<L: Ledger>(&self, reach: Cx, reversed: bool, steps: &mut Steps<L>) -> bool
+        requires reach { IsBelow reach reach_bound }
+        ensures shape { result ≡ has_shape (Mho reach) reversed self.now.u self.now.i self.now.pol }
+        ensures cost { steps.new ≤ steps.old + 1 }
+    {
+        match &self.polarised {
+            Some(formed) => {
+                if reversed {
+                    formed.turned().is_inside(reach, steps)
+                } else {
+                    formed.is_inside(reach, steps)
+                }
+            }
+            None => match self.pol {
+                Some(pol) => mho_inside(reach, self.u, towards(reversed, self.i), pol, steps),
+                None => false,
+            },
+        }
+    }
+
+    /// Whether the loop is inside the quadrilateral.
+    #[inline(always)]
+    fn is_in_quad<L: Ledger>(
+        &self,
+        quad: &QuadSettings,
+        reversed: bool,
+        steps: &mut Steps<L>,
+    ) -> bool
+        requires quad { IsQuad quad.now }
+        ensures shape { result ≡ has_shape (Quad quad.now) reversed self.now.u self.now.i self.now.pol }
+        ensures cost { steps.new ≤ steps.old + 1 }
+    {
+        match &self.impedance {
+            Some(formed) => {
+                if reversed {
+                    formed.turned().is_inside(quad, steps)
+                } else {
+                    formed.is_inside(quad, steps)
+                }
+            }
+            None => quad_inside(quad, self.u, towards(reversed, self.i), steps),
+        }
+    }
+}
+
+/// What quadrilaterals ask, where one does.
+fn impedance_of(u: Cx, i: Cx, has_quad: bool) -> Option<LoopImpedance>
+    requires u { IsBelow u loop_voltage_bound }
+    requires i { IsBelow i loop_current_bound }
+    ensures { ForSome result (IsImpedance u i) }
+{
+    if has_quad {
+        Some(LoopImpedance::of(u, i))
+    } else {
+        None
+    }
+}
+
+/// What circles ask, where there is a polarising voltage.
+fn polarised_of(u: Cx, i: Cx, pol: Option<Cx>) -> Option<Polarised>
+    requires u { IsBelow u loop_voltage_bound }
+    requires i { IsBelow i loop_current_bound }
+    requires pol { ForSome pol (λ p. IsBelow p polarising_bound) }
+    ensures { ForSome result (IsPolarisedBy u i pol) }
+{
+    match pol {
+        Some(pol) => Some(Polarised::of(u, i, pol)),
+        None => None,
+    }
+}
