@@ -2,6 +2,7 @@
 ghost use Rattle.std.specs.Prelude.{◌≡◌, ◌<◌, ◌≤◌};
 ghost use Rattle.inverse_time.specs.InverseCurves.{IsDial, dial_of};
 
+use drill::drill_text;
 use inverse_time::{Backups, Curve, multiple, print_backup};
 use relay_num::{Cx, Steps, open_steps, wave};
 use settings_read::read_settings;
@@ -12,39 +13,21 @@ use std::sync::ledger::{Blank, Ledger};
 use std::test::Fail;
 use sv_frame::Asdu;
 
-/// One line at 4800 samples a second and 50 Hz.
-const SETTINGS: &str = "version = 1
-start = \"2024-01-01T00:00:00Z\"
-rate = 4800
-nominal = 50
-heartbeat_ms = 1000
+/// The beginning of the drill's settings, at 4800 samples a second and 50 Hz, and the keys of their first line.
+fn drill_parts() -> (&'static str, &'static str) {
+    let (top, lines) = drill_text().split_once("[[line]]").unwrap_or(("", ""));
+    let (line, _) = lines.split_once("[[line]]").unwrap_or(("", ""));
+    (top, line)
+}
 
-[[line]]
-name = \"L1\"
-sv_id = \"MU01\"
-conf_rev = 1
-line_r = 0
-line_x = 15000
-k0_re = 600
-k0_im = 0
-i_min = 200000
-i0_min = 100000
-dir_i2 = 100000
-mem_u = 1000000
-mem_ms = 200
-trip_min_ms = 100
-open_i = 50000
-open_ms = 20
-
-[line.goose]
-dst = \"01-0C-CD-01-00-01\"
-src = \"02-00-00-00-00-02\"
-appid = 1
-gocb_ref = \"P1/LLN0$GO$G1\"
-dat_set = \"P1/LLN0$DS1\"
-go_id = \"G1\"
-conf_rev = 1
-";
+/// The drill's settings with their first line alone, L1 with the svID MU01.
+fn one_line(alloc: Global) -> Result<String, AllocError> {
+    let (top, line) = drill_parts();
+    let mut text = top.to_string(alloc)?;
+    text.push_str("[[line]]")?;
+    text.push_str(line)?;
+    Ok(text)
+}
 
 /// The counters from the first on to before the second: the currents of A, B and C as multiples of the sine table,
 /// and the quality word of IA.
@@ -53,14 +36,17 @@ type Span = (u16, u16, [i32; 3], u32);
 /// The curve, the pickup in mA, the time multiplier in thousandths, the sample sets and the log.
 type Row<'a> = (Curve, u32, u32, &'a [Span], &'a str);
 
-/// The 64 bytes of the data set, with no voltage.
-fn data_of(alloc: Global, counter: u16, span: &Span) -> Result<Vec<u8>, AllocError> {
-    let (_, sine) = wave(96, u32::from(counter) % 96);
-    let (_, _, scales, quality) = *span;
+/// The 64 bytes of the data set at this value of the sine table, with no voltage.
+fn data_of(
+    alloc: Global,
+    sine: i32,
+    scales: [i32; 3],
+    quality: u32,
+) -> Result<Vec<u8>, AllocError> {
     let mut data = Vec::new(alloc);
     let mut mark = quality;
     for scale in scales {
-        let value = scale.wrapping_mul(sine as i32);
+        let value = scale.wrapping_mul(sine);
         data.extend_from_slice(&value.to_be_bytes())?;
         data.extend_from_slice(&mark.to_be_bytes())?;
         mark = 0;
@@ -69,29 +55,28 @@ fn data_of(alloc: Global, counter: u16, span: &Span) -> Result<Vec<u8>, AllocErr
     Ok(data)
 }
 
-/// Appends what the sample set with this counter brings.
+/// Appends what the sample set of this svID with this counter brings to the line of this name.
 fn hear_one<L: Ledger>(
-    alloc: Global,
     backups: &mut Backups,
     steps: &mut Steps<L>,
+    (sv_id, name): (&[u8], &[u8]),
     counter: u16,
-    span: &Span,
+    data: &[u8],
     log: &mut Vec<u8>,
 ) -> Result<(), AllocError> {
-    let data = data_of(alloc, counter, span)?;
-    if backups.heard() >= 1 << 40 || data.len() > 64 {
+    if backups.heard() >= 1 << 40 || name.len() > 16 || data.len() > 2048 {
         return Ok(());
     }
     let a = Asdu {
-        sv_id: b"MU01",
+        sv_id,
         counter,
         conf_rev: 1,
         synch: 2,
-        samples: data.as_slice(),
+        samples: data,
     };
     if let Some((_, events)) = backups.hear(&a, steps) {
         for event in events.as_slice() {
-            log.extend_from_slice(print_backup(b"L1", event).as_slice())?;
+            log.extend_from_slice(print_backup(name, event).as_slice())?;
         }
     }
     Ok(())
@@ -105,14 +90,23 @@ fn log_of<L: Ledger>(alloc: Global, row: &Row, blank: Blank) -> Result<Vec<u8>, 
     requires parts { blank.parts ≡ L.parts }
     requires shares { 0 < blank.parts }
 {
-    let settings = read_settings(alloc, SETTINGS.as_bytes())?;
+    let settings = read_settings(alloc, one_line(alloc)?.as_bytes())?;
     let (curve, pickup, tms, spans, _) = *row;
     let mut steps = open_steps::<L>(blank);
     let mut backups = Backups::new(alloc, &settings, curve, pickup, tms)?;
     let mut log = Vec::new(alloc);
     for span in spans {
         for counter in span.0..span.1 {
-            hear_one(alloc, &mut backups, &mut steps, counter, span, &mut log)?;
+            let (_, sine) = wave(96, u32::from(counter) % 96);
+            let data = data_of(alloc, sine as i32, span.2, span.3)?;
+            hear_one(
+                &mut backups,
+                &mut steps,
+                (b"MU01", b"L1"),
+                counter,
+                &data,
+                &mut log,
+            )?;
         }
     }
     Ok(log)
@@ -228,5 +222,155 @@ L1 2024-01-01T00:00:00.320416666Z 1538 backup A operate
         let log = log_of::<Brand>(rt.alloc(), row, Blank::new(1))?;
         assert_eq!(rt; log.as_slice(), row.4.as_bytes());
     }
+    Ok(())
+}
+
+/// At 4000 samples a second, 80 a cycle: phase A at 2.9 times the pickup from the start.
+fn log_at_4000<L: Ledger>(alloc: Global, curve: Curve, blank: Blank) -> Result<Vec<u8>, Fail>
+    requires name { blank.name ≡ L.name }
+    requires parts { blank.parts ≡ L.parts }
+    requires shares { 0 < blank.parts }
+{
+    let text = one_line(alloc)?.replacen(alloc, "rate = 4800", "rate = 4000", 1)?;
+    let settings = read_settings(alloc, text.as_bytes())?;
+    let mut steps = open_steps::<L>(blank);
+    let mut backups = Backups::new(alloc, &settings, curve, 1_000_000, 25)?;
+    let mut log = Vec::new(alloc);
+    for counter in 0..1200_u16 {
+        let (_, sine) = wave(80, u32::from(counter) % 80);
+        let data = data_of(alloc, sine as i32, [250, 0, 0], 0)?;
+        hear_one(
+            &mut backups,
+            &mut steps,
+            (b"MU01", b"L1"),
+            counter,
+            &data,
+            &mut log,
+        )?;
+    }
+    Ok(log)
+}
+
+/// A curve, and the log at 4000 samples a second.
+const AT_4000: [(Curve, &str); 2] = [
+    (
+        Curve::Very,
+        "L1 2024-01-01T00:00:00.019750000Z 79 backup A start
+L1 2024-01-01T00:00:00.197750000Z 791 backup A operate
+",
+    ),
+    (
+        Curve::Extremely,
+        "L1 2024-01-01T00:00:00.019750000Z 79 backup A start
+L1 2024-01-01T00:00:00.290250000Z 1161 backup A operate
+",
+    ),
+];
+
+#[test]
+fn times_are_those_of_the_rate(rt: HostRuntime) -> Result<(), Fail> {
+    for (curve, log) in &AT_4000 {
+        let told = log_at_4000::<Brand>(rt.alloc(), *curve, Blank::new(1))?;
+        assert_eq!(rt; told.as_slice(), log.as_bytes());
+    }
+    Ok(())
+}
+
+/// The name and the svID of each of sixteen lines.
+const LINES: [(&str, &str); 16] = [
+    ("L01", "MU01"),
+    ("L02", "MU02"),
+    ("L03", "MU03"),
+    ("L04", "MU04"),
+    ("L05", "MU05"),
+    ("L06", "MU06"),
+    ("L07", "MU07"),
+    ("L08", "MU08"),
+    ("L09", "MU09"),
+    ("L10", "MU10"),
+    ("L11", "MU11"),
+    ("L12", "MU12"),
+    ("L13", "MU13"),
+    ("L14", "MU14"),
+    ("L15", "MU15"),
+    ("L16", "MU16"),
+];
+
+/// The settings of these lines, each with a control block reference of its own.
+fn sixteen_of(alloc: Global) -> Result<String, AllocError> {
+    let (top, line) = drill_parts();
+    let mut text = top.to_string(alloc)?;
+    for (name, sv_id) in &LINES {
+        let named = line.replacen(alloc, "L1", name, 1)?;
+        let owning = named.replacen(alloc, "MU01", sv_id, 1)?;
+        let sending = owning.replacen(alloc, "$G1", sv_id, 1)?;
+        text.push_str("[[line]]")?;
+        text.push_str(&sending)?;
+    }
+    Ok(text)
+}
+
+/// The lines' sample sets in turn: phase A of the first has 50 times the sine table, of the second 100, and so on.
+fn sixteen_logs<L: Ledger>(alloc: Global, blank: Blank) -> Result<Vec<u8>, Fail>
+    requires name { blank.name ≡ L.name }
+    requires parts { blank.parts ≡ L.parts }
+    requires shares { 0 < blank.parts }
+{
+    let text = sixteen_of(alloc)?;
+    let settings = read_settings(alloc, text.as_bytes())?;
+    let mut steps = open_steps::<L>(blank);
+    let mut backups = Backups::new(alloc, &settings, Curve::Very, 1_000_000, 25)?;
+    let mut log = Vec::new(alloc);
+    for counter in 0..700_u16 {
+        let (_, sine) = wave(96, u32::from(counter) % 96);
+        let mut scale: i32 = 0;
+        for (name, sv_id) in &LINES {
+            scale = scale.wrapping_add(50);
+            let data = data_of(alloc, sine as i32, [scale, 0, 0], 0)?;
+            hear_one(
+                &mut backups,
+                &mut steps,
+                (sv_id.as_bytes(), name.as_bytes()),
+                counter,
+                &data,
+                &mut log,
+            )?;
+        }
+    }
+    Ok(log)
+}
+
+/// The first line stays below the pickup, and the greater a current, the earlier its line operates.
+const SIXTEEN_LOGS: &str = "L02 2024-01-01T00:00:00.019791666Z 95 backup A start
+L03 2024-01-01T00:00:00.019791666Z 95 backup A start
+L04 2024-01-01T00:00:00.019791666Z 95 backup A start
+L05 2024-01-01T00:00:00.019791666Z 95 backup A start
+L06 2024-01-01T00:00:00.019791666Z 95 backup A start
+L07 2024-01-01T00:00:00.019791666Z 95 backup A start
+L08 2024-01-01T00:00:00.019791666Z 95 backup A start
+L09 2024-01-01T00:00:00.019791666Z 95 backup A start
+L10 2024-01-01T00:00:00.019791666Z 95 backup A start
+L11 2024-01-01T00:00:00.019791666Z 95 backup A start
+L12 2024-01-01T00:00:00.019791666Z 95 backup A start
+L13 2024-01-01T00:00:00.019791666Z 95 backup A start
+L14 2024-01-01T00:00:00.019791666Z 95 backup A start
+L15 2024-01-01T00:00:00.019791666Z 95 backup A start
+L16 2024-01-01T00:00:00.019791666Z 95 backup A start
+L16 2024-01-01T00:00:00.060416666Z 290 backup A operate
+L15 2024-01-01T00:00:00.063541666Z 305 backup A operate
+L14 2024-01-01T00:00:00.067083333Z 322 backup A operate
+L13 2024-01-01T00:00:00.071458333Z 343 backup A operate
+L12 2024-01-01T00:00:00.076458333Z 367 backup A operate
+L11 2024-01-01T00:00:00.082500000Z 396 backup A operate
+L10 2024-01-01T00:00:00.090208333Z 433 backup A operate
+L09 2024-01-01T00:00:00.099791666Z 479 backup A operate
+L08 2024-01-01T00:00:00.112500000Z 540 backup A operate
+L07 2024-01-01T00:00:00.130208333Z 625 backup A operate
+";
+
+#[test]
+fn sixteen_lines_have_elements_of_their_own(rt: HostRuntime) -> Result<(), Fail> {
+    let log = sixteen_logs::<Brand>(rt.alloc(), Blank::new(1))?;
+    assert_eq!(rt; log.as_slice(), SIXTEEN_LOGS.as_bytes());
     Ok(())
 }

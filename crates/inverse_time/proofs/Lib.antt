@@ -1,4 +1,3 @@
 pub mod RootLemmas
 pub mod PhaseLemmas
 pub mod BackupLemmas
-pub mod BankLemmas

@@ -1,15 +1,14 @@
 -- What the bank of all lines holds after the sample sets that it heard, the newest first.
-use Rattle.std.specs.Prelude.{ℕ, ◌≡◌, ◌≢◌, ◌<◌, ◌≤◌, ◌*◌, List, ◌∷◌, length, slice_index_or, Some}
-use Rattle.std.specs.List.{All, AllPairs}
-use Rattle.std.specs.Option.{ForSome}
+use Rattle.std.specs.Prelude.{ℕ, List}
 use Rattle.relay_settings.specs.Settings.{PlainLine, PlainSettings}
 use Rattle.sv_frame.specs.Asdu.{PlainAsdu}
+use Rattle.line_bank.specs.Banks.{HaveHeard, IsTold as IsToldBy}
 use Rattle.inverse_time.specs.declared.curve.Dial.{Dial}
 use Rattle.inverse_time.specs.declared.event.BackupEvent.{BackupEvent}
 use Rattle.inverse_time.specs.declared.backup.Backup.{Backup}
 use Rattle.inverse_time.specs.declared.bank.Backups.{Backups}
-use Rattle.inverse_time.specs.BackupLines.{own_sets, backup_told}
-use Rattle.inverse_time.specs.KeptBackup.{last_of, StandsFor as BackupStandsFor}
+use Rattle.inverse_time.specs.BackupLines.{tells_by}
+use Rattle.inverse_time.specs.KeptBackup.{StandsFor as BackupStandsFor}
 
 abbrev pub lines_of : Backups → List Backup
 lines_of backups = backups.lines.items
@@ -18,24 +17,14 @@ lines_of backups = backups.lines.items
 abbrev pub heard_of : Backups → ℕ
 heard_of backups = backups.heard
 
--- a line's last number is small for so many sample sets: each brings it on by less than a second's samples
-abbrev pub IsSmall : Backup → ℕ → Type 0
-IsSmall line heard = ForSome (last_of line) (λ last. last ≤ 4800 * heard)
-
-abbrev pub AreSmall : List Backup → ℕ → Type 0
-AreSmall lines heard = All (λ line. IsSmall line heard) lines
+-- a line of these settings after its own of the sample sets
+abbrev pub Holds : PlainSettings → Dial → PlainLine → List PlainAsdu → Backup → Type 0
+Holds settings dial line asdus backup = BackupStandsFor settings.common line dial asdus backup
 
 -- the bank of these settings, whose svIDs differ: each line after its own of the sample sets
-pub record StandsFor (settings : PlainSettings) (dial : Dial) (past : List PlainAsdu) (backups : Backups) : Type 0 where
-  pub differ : AllPairs (λ a b. a.sv_id ≢ b.sv_id) settings.lines
-  pub count : length (lines_of backups) ≡ length settings.lines
-  pub each : (place : ℕ) (d : PlainLine) (h : Backup) → place < length settings.lines →
-      BackupStandsFor settings.common (slice_index_or settings.lines place d) dial (own_sets (slice_index_or settings.lines place d) past)
-      (slice_index_or (lines_of backups) place h)
+abbrev pub StandsFor : PlainSettings → Dial → List PlainAsdu → Backups → Type 0
+StandsFor settings dial past backups = HaveHeard (Holds settings dial) settings.lines past (lines_of backups)
 
--- the line at this place owns the sample set, and these are the events that it tells
-pub record IsTold (settings : PlainSettings) (dial : Dial) (past : List PlainAsdu) (a : PlainAsdu) (place : ℕ) (events : List BackupEvent) : Type 0 where
-  pub within : place < length settings.lines
-  pub line : PlainLine
-  pub at_place : (d : PlainLine) → slice_index_or settings.lines place d ≡ line
-  pub told : backup_told settings dial (a ∷ past) ≡ Some (record { line = line; events = events })
+-- the line at this place owns the newest of the sample sets, and these are the events that it tells
+abbrev pub IsTold : PlainSettings → Dial → List PlainAsdu → ℕ → List BackupEvent → Type 0
+IsTold settings dial past place events = IsToldBy (tells_by settings dial) settings.lines past place events

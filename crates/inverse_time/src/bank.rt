@@ -1,7 +1,5 @@
 //! The bank of all lines.
-ghost use Rattle.std.specs.Prelude.{◌≤◌, ◌*◌};
-ghost use Rattle.std.specs.List.{All};
-ghost use Rattle.std.specs.Option.{ForSome};
+ghost use Rattle.line_bank.specs.Banks.{AreSmall};
 ghost use Rattle.inverse_time.specs.KeptBackup.{last_of};
 
 use crate::backup::Backup;
@@ -20,7 +18,7 @@ pub struct Backups {
     lines: Vec<Backup>,
     heard: u64,
     // A sample set brings a line's number on by less than a second's samples.
-    ghost near: { All (λ line. ForSome (last_of line) (λ last. last ≤ 4800 * heard)) lines.items },
+    ghost near: { AreSmall last_of lines.items heard },
 }
 
 impl Backups {
@@ -32,7 +30,7 @@ impl Backups {
     ghost use Rattle.inverse_time.specs.declared.curve.Dial.{Dial};
     ghost use Rattle.inverse_time.specs.declared.backup.Backup.{Backup};
     ghost use Rattle.inverse_time.specs.InverseCurves.{IsDial, dial_of};
-    ghost use Rattle.inverse_time.specs.BackupLines.{owns_set, owner_of};
+    ghost use Rattle.line_bank.specs.Owners.{owns, owner};
     ghost use Rattle.inverse_time.specs.BackupTexts.{IsPrintableEvent};
     ghost use Rattle.inverse_time.specs.KeptBackups.{StandsFor, IsTold, lines_of, heard_of};
 
@@ -50,6 +48,7 @@ impl Backups {
         requires dial { IsDial (dial_of curve pickup tms) }
         ensures stands { IfOk result (λ backups. StandsFor (plain_settings s.now) (dial_of curve pickup tms) [] backups) }
         ensures none { IfOk result (λ backups. heard_of backups ≡ 0) }
+        ensures count { IfOk result (λ backups. length (lines_of backups) ≡ length s.now.lines.items) }
     {
         let dial = Dial { curve, pickup, tms };
         let mut lines = Vec::new(alloc);
@@ -74,11 +73,13 @@ impl Backups {
         requires few { heard_of self.old < 2 ^ 40 }
         // By the sample sets before: for each list of them that the bank stands for.
         ensures told { (settings : PlainSettings) (dial : Dial) (past : List PlainAsdu) → StandsFor settings dial past self.old →
-            IfSome result (λ told. IsTold settings dial past (plain_asdu a.now) told.0 told.1.items) }
+            IfSome result (λ told. IsTold settings dial (plain_asdu a.now ∷ past) told.0 told.1.items) }
         ensures none { (settings : PlainSettings) (dial : Dial) (past : List PlainAsdu) → StandsFor settings dial past self.old →
-            IfNone result (owner_of (plain_asdu a.now) settings.lines ≡ None) }
+            IfNone result (owner (plain_asdu a.now) settings.lines ≡ None) }
         ensures after { (settings : PlainSettings) (dial : Dial) (past : List PlainAsdu) → StandsFor settings dial past self.old →
             StandsFor settings dial (plain_asdu a.now ∷ past) self.new }
+        ensures within { IfSome result (λ told. told.0 < length (lines_of self.new)) }
+        ensures same_count { length (lines_of self.new) ≡ length (lines_of self.old) }
         ensures printable { IfSome result (λ told. All IsPrintableEvent told.1.items) }
         ensures others { (place : ℕ) (d : Backup) → IfSome result (λ told. place ≢ told.0) →
             slice_index_or (lines_of self.new) place d ≡ slice_index_or (lines_of self.old) place d }
@@ -97,9 +98,9 @@ impl Backups {
     fn place_of(&self, a: &Asdu<'_>) -> Option<usize>
         ensures within { IfSome result (λ place. place < length (lines_of self.now)) }
         ensures mine { (settings : PlainSettings) (dial : Dial) (past : List PlainAsdu) → StandsFor settings dial past self.now →
-            IfSome result (λ place. (d : PlainLine) → owns_set (slice_index_or settings.lines place d) (plain_asdu a.now) ≡ true) }
+            IfSome result (λ place. (d : PlainLine) → owns (slice_index_or settings.lines place d) (plain_asdu a.now) ≡ true) }
         ensures none { (settings : PlainSettings) (dial : Dial) (past : List PlainAsdu) → StandsFor settings dial past self.now →
-            IfNone result (All (λ line. owns_set line (plain_asdu a.now) ≡ false) settings.lines) }
+            IfNone result (All (λ line. owns line (plain_asdu a.now) ≡ false) settings.lines) }
     {
         for (place, line) in self.lines.iter().enumerate() {
             if line.owns(a) {

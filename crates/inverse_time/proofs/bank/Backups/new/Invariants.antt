@@ -1,9 +1,12 @@
 use Rattle.std.proofs.Common.{◌≡◌, length}
-use Rattle.inverse_time.proofs.BankLemmas.{AreNewLines}
+use Rattle.relay_settings.specs.Settings.{plain_settings}
+use Rattle.line_bank.proofs.BankLaws.{AreNew}
+use Rattle.inverse_time.specs.KeptBackup.{last_of}
+use Rattle.inverse_time.specs.KeptBackups.{Holds}
 use Rattle.inverse_time.proofs.bank.Backups.new.Given as goal
 
 abbrev pub invariant-loop-settings : goal.invariant-loop-settings
 invariant-loop-settings l = record {
   count : length l.lines.items ≡ l.settings-index;
-  made : AreNewLines l.s.common l.dial l.s.lines.items l.lines.items l.settings-index;
+  made : AreNew (Holds (plain_settings l.s) l.dial) last_of l.s.lines.items l.lines.items l.settings-index;
 }

@@ -1,0 +1,4 @@
+use Rattle.inverse_rows.proofs.tests.sixteen_lines_have_elements_of_their_own.Given as goal
+
+abbrev pub ghosts-sixteen_logs : goal.ghosts-sixteen_logs
+ghosts-sixteen_logs a b = record { name = b.blank.name; parts = b.blank.parts }
