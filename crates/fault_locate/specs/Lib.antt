@@ -1,0 +1,13 @@
+pub mod Quotients
+pub mod Distances
+pub mod TripLoops
+pub mod Locating
+pub mod LocateTexts
+pub mod TripEvents
+pub mod KeptCurrents
+pub mod KeptLookback
+pub mod KeptWaiting
+pub mod NextSample
+pub mod KeptLocator
+pub mod LocateLines
+pub mod KeptLocators
