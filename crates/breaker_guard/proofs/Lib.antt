@@ -1,0 +1,4 @@
+pub mod SpanLemmas
+pub mod StepLemmas
+pub mod BurstLemmas
+pub mod GuardLemmas

@@ -1,0 +1,37 @@
+use Rattle.std.proofs.Common.{◌<◌, arith, length}
+use Rattle.sv_frame.specs.Asdu.{plain_asdu}
+use Rattle.line_bank.proofs.BankLaws.{heard-next, unheard-next, told-is, no-owner, small-next}
+use Rattle.breaker_guard.specs.GuardLines.{tells_by}
+use Rattle.breaker_guard.specs.Guarding.{listed}
+use Rattle.breaker_guard.specs.KeptGuard.{line_last, front_last}
+use Rattle.breaker_guard.specs.KeptGuards.{Holds}
+use Rattle.breaker_guard.proofs.bank.Guards.hear.Goals as goal
+
+pub returns-in_err-place-clause-none : goal.returns-in_err-place-clause-none
+returns-in_err-place-clause-none g c settings times past stands =
+    rw c.from_residual.ensures (no-owner settings.lines (plain_asdu c.args.a.now) (c.in_err-place.ensures.none settings times past stands))
+
+pub returns-in_err-place-clause-after : goal.returns-in_err-place-clause-after
+returns-in_err-place-clause-after g c settings times past stands =
+    unheard-next (Holds settings times) settings.lines past c.args.self.now.lines.items (plain_asdu c.args.a.now) stands (c.in_err-place.ensures.none settings times past stands)
+
+pub invariant_of-self-2 : goal.invariant_of-self-2
+invariant_of-self-2 g c = record {
+  near_line = small-next line_last c.args.self.now.lines.items c.args.self.now.heard c.in_ok-place.place c.index_mut-line.result.now c.take-event.new.self
+      c.args.self.now.near_line c.in_ok-place.ensures.within c.index_mut-line.ensures.value c.take-event.ensures.line_grows;
+  near_front = small-next front_last c.args.self.now.lines.items c.args.self.now.heard c.in_ok-place.place c.index_mut-line.result.now c.take-event.new.self
+      c.args.self.now.near_front c.in_ok-place.ensures.within c.index_mut-line.ensures.value c.take-event.ensures.front_grows;
+}
+
+pub returns-clause-told : goal.returns-clause-told
+returns-clause-told g c settings times past stands =
+    let within : c.in_ok-place.place < length settings.lines = omega (arith, stands.count, c.in_ok-place.ensures.within) in
+    told-is (Holds settings times) settings.lines past c.args.self.now.lines.items (plain_asdu c.args.a.now) stands c.in_ok-place.place within (c.in_ok-place.ensures.mine settings times past stands)
+    (tells_by settings times) c.index_mut-line.result.now (listed c.take-event.result) c.index_mut-line.ensures.value
+    (λ line asdus held. c.take-event.ensures.told settings.common line times asdus held)
+
+pub returns-clause-after : goal.returns-clause-after
+returns-clause-after g c settings times past stands =
+    let within : c.in_ok-place.place < length settings.lines = omega (arith, stands.count, c.in_ok-place.ensures.within) in
+    heard-next (Holds settings times) settings.lines past c.args.self.now.lines.items (plain_asdu c.args.a.now) stands c.in_ok-place.place within (c.in_ok-place.ensures.mine settings times past stands)
+    c.index_mut-line.result.now c.take-event.new.self c.index_mut-line.ensures.value (λ line asdus held. c.take-event.ensures.after settings.common line times asdus held)

@@ -1,0 +1,11 @@
+pub mod GuardTakes
+pub mod TripSpans
+pub mod Guarding
+pub mod OneLine
+pub mod GuardEvents
+pub mod GuardLines
+pub mod GuardTexts
+pub mod TripEvents
+pub mod KeptWatch
+pub mod KeptGuard
+pub mod KeptGuards
