@@ -1,0 +1,9 @@
+pub mod Lengths
+pub mod NumberLemmas
+pub mod CoveredLemmas
+pub mod WindowLemmas
+pub mod LineLemmas
+pub mod TripLemmas
+pub mod WatchLemmas
+pub mod PlaceLemmas
+pub mod RecordLemmas

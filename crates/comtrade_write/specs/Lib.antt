@@ -1,0 +1,9 @@
+pub mod Covered
+pub mod Moments
+pub mod ConfigTexts
+pub mod DataTexts
+pub mod Recordings
+pub mod Kept
+pub mod KeptWindow
+pub mod KeptWatch
+pub mod KeptRecorder
