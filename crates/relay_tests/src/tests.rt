@@ -10,4 +10,5 @@ mod sent;
 mod settings;
 mod signals;
 mod stations;
+mod studies;
 mod zones;

@@ -6,8 +6,9 @@ use Rattle.std.specs.List.{count_by}
 use Rattle.sv_frame.specs.Asdu.{PlainAsdu}
 use Rattle.relay_settings.specs.Settings.{PlainSettings}
 use Rattle.line_relay.specs.Bursts.{PlainBurst}
-use Rattle.station.specs.Owners.{owner}
-use Rattle.station.specs.Told.{Told, told, told_by}
+use Rattle.line_bank.specs.Owners.{owner}
+use Rattle.line_bank.specs.Banks.{told_by}
+use Rattle.station.specs.Told.{Told, told, tells_by}
 use Rattle.station.specs.KeptStation.{IsTold}
 use Rattle.relay_tool.specs.Tallies.{told_sum, count_of, events_of, sends_of, trips_of, is_trip}
 use Rattle.relay_tool.specs.KeptTally.{Counts}
@@ -18,20 +19,20 @@ unfolding told_sum
 sum-next count settings past a o is = ap (λ t. told_sum count settings past + count_of count t) is
 
 -- the owner's burst was counted
-pub counts-told : (settings : PlainSettings) (past : List PlainAsdu) (a : PlainAsdu) (place : ℕ) (burst : PlainBurst) (old new : Count) → IsTold settings past a place burst → Counts settings past old →
+pub counts-told : (settings : PlainSettings) (past : List PlainAsdu) (a : PlainAsdu) (place : ℕ) (burst : PlainBurst) (old new : Count) → IsTold settings (a ∷ past) place burst → Counts settings past old →
     new.events ≡ old.events + length burst.events → new.sends ≡ old.sends + (if is_some burst.send then 1 else 0) → new.trips ≡ old.trips + count_by is_trip burst.events → Counts settings (a ∷ past) new
 counts-told settings past a place burst old new is counts events sends trips =
-    let told_is : Told = record { line = is.line; burst = burst } in
+    let told_is : Told = record { line = is.line; told = burst } in
     record {
-      events = events ∙ (ap (λ n. n + length burst.events) counts.events ∙ sym (sum-next events_of settings past a (Some told_is) is.told));
-      sends = sends ∙ (ap (λ n. n + (if is_some burst.send then 1 else 0)) counts.sends ∙ sym (sum-next sends_of settings past a (Some told_is) is.told));
-      trips = trips ∙ (ap (λ n. n + count_by is_trip burst.events) counts.trips ∙ sym (sum-next trips_of settings past a (Some told_is) is.told));
+      events = events ∙ (ap (λ n. n + length burst.events) counts.events ∙ sym (sum-next events_of settings past a (Some told_is) is.is));
+      sends = sends ∙ (ap (λ n. n + (if is_some burst.send then 1 else 0)) counts.sends ∙ sym (sum-next sends_of settings past a (Some told_is) is.is));
+      trips = trips ∙ (ap (λ n. n + count_by is_trip burst.events) counts.trips ∙ sym (sum-next trips_of settings past a (Some told_is) is.is));
     }
 
 -- no line owns the sample set
 pub counts-none : (settings : PlainSettings) (past : List PlainAsdu) (a : PlainAsdu) (count : Count) → owner a settings.lines ≡ None → Counts settings past count → Counts settings (a ∷ past) count
 counts-none settings past a count none counts =
-    let nothing : told settings (a ∷ past) ≡ None = ap (option_map (told_by settings a past)) none in
+    let nothing : told settings (a ∷ past) ≡ None = ap (option_map (told_by (tells_by settings) a past)) none in
     record {
       events = counts.events ∙ sym (sum-next events_of settings past a None nothing ∙ add-none (told_sum events_of settings past));
       sends = counts.sends ∙ sym (sum-next sends_of settings past a None nothing ∙ add-none (told_sum sends_of settings past));

@@ -6,11 +6,11 @@ use Rattle.room_io.specs.Room.{RoomState, SlotState, at, OnlyAt, Rose, IsFile, A
 use Rattle.room_io.specs.declared.room.Slot.{Slot}
 use Rattle.room_io.specs.declared.room.Slot.TheVariants.{Settings, Capture, Goose, Log, Note, Answer}
 use Rattle.relay_tool.specs.Endings.{Ending, status_of, note_of, done, usage, refused, not_capture, cut, damaged, too_long, fault, no_memory}
-use Rattle.relay_tool.specs.Words.{Asked, replay, check, drill, word_of}
+use Rattle.relay_tool.specs.Words.{Asked, replay, check, drill, study, word_of}
 use Rattle.relay_tool.specs.Output.{Item}
-use Rattle.relay_tool.specs.Run.{Run, run_of, all_writes}
+use Rattle.relay_tool.specs.Run.{Run, Job, replay_job, study_job, run_of, all_writes}
 use Rattle.relay_tool.specs.Files.{IsWritten, Reaches, AreReady, AreNamed, IsNamedBy, IsUnstarted, HasSettingsAlone, IsStarted, is_slot, front}
-use Rattle.relay_tool.specs.Answers.{AnswersTo, IsNoted, CaptureFault, FailsAt}
+use Rattle.relay_tool.specs.Answers.{AnswersTo, IsNoted, JobFault, CaptureFault, FailsAt}
 use Rattle.relay_tool.specs.Leaving.{Gives, Completes, Leaves}
 use Rattle.relay_tool.proofs.Slots.{same-slot, kept-at}
 use Rattle.relay_tool.proofs.Staging.{Laws, written-file, alone-unstarted}
@@ -77,17 +77,17 @@ module _ {mid new : RoomState} (only : OnlyAt Note mid new) where
   reaches-new : (asked : Option Asked) (slot : Slot) (ws : List Item) → Reaches asked slot ws mid → Reaches asked slot ws new
   reaches-new asked slot ws r = record { whole = r.whole; part = r.part; written = written-new (front r.whole r.part ws) r.written; next = λ file ready. r.next file (ready-old asked ready) }
 
-  capture-new : (asked : Option Asked) (old : RoomState) → CaptureFault asked old mid → CaptureFault asked old new
-  capture-new (Some (replay names)) old (inl early) =
+  job-new : (asked : Asked) (job : Job) (old : RoomState) → JobFault asked job old mid → JobFault asked job old new
+  job-new asked job old (inl early) =
       inl (record {
         unstarted = unstarted-new early.unstarted;
         taken = λ told ready.
             let t = early.taken told (sym (ap (λ (s : SlotState). s.is_ready) (kept Capture refl)) ∙ ready) in
             (t.0, t.1, t.2 ∙ ap (λ (s : SlotState). t.0 ++ s.bytes) (sym (kept Capture refl)));
       })
-  capture-new (Some (replay names)) old (inr late) =
+  job-new asked job old (inr late) =
       inr (record {
-        started = started-new (Some (replay names)) late.started;
+        started = started-new (Some asked) late.started;
         ready = ap (λ (s : SlotState). s.is_ready) (kept Capture refl) ∙ late.ready;
         reached = λ told.
             let r = late.reached told in
@@ -99,9 +99,13 @@ module _ {mid new : RoomState} (only : OnlyAt Note mid new) where
               is = r.is ∙ ap (λ (s : SlotState). r.taken ++ s.bytes) (sym (kept Capture refl));
               found = r.found;
               records = r.records;
-              written = written-new (all_writes r.settings r.found.bodies) r.written;
+              written = written-new (all_writes job r.settings r.found.bodies) r.written;
             };
       })
+
+  capture-new : (asked : Option Asked) (old : RoomState) → CaptureFault asked old mid → CaptureFault asked old new
+  capture-new (Some (replay names)) old failed = job-new (replay names) (replay_job names) old failed
+  capture-new (Some (study s names)) old failed = job-new (study s names) (study_job s names) old failed
   capture-new (Some (check settings)) old none = none
   capture-new (Some (drill seed seconds)) old none = none
   capture-new None old none = none

@@ -3,6 +3,7 @@ pub mod Parting
 pub mod Writing
 pub mod Hearing
 pub mod Telling
+pub mod Studying
 pub mod Framing
 pub mod Treating
 pub mod Accepting

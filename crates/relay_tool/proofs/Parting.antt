@@ -1,5 +1,5 @@
 -- The scalar output, taken apart by records and by lines.
-use Rattle.std.proofs.Common.{◌≡◌, ℕ, suc, ◌+◌, ◌<◌, Bool, true, false, List, [], ◌∷◌, ◌++◌, Option, Some, None, length, map, reverse, refl, sym, ◌∙◌, ap, ap₂, arith, append_assoc, append-nil, inl, inr}
+use Rattle.std.proofs.Common.{◌≡◌, ℕ, suc, ◌+◌, ◌<◌, Bool, true, false, List, [], ◌∷◌, ◌++◌, Option, Some, None, length, map, reverse, refl, sym, ◌∙◌, ap, ap₂, subst, arith, append_assoc, append-nil, inl, inr}
 use Rattle.std.specs.Prelude.{filter, if◌then◌else◌, slice_index_or}
 use Rattle.std.specs.Str.{bytes_eq}
 use Rattle.std.proofs.lemmas.List.{reverse-append, get_or_default}
@@ -16,9 +16,10 @@ use Rattle.relay_settings.specs.declared.types.Common.{Common}
 use Rattle.line_relay.specs.Bursts.{PlainBurst, burst}
 use Rattle.goose_publish.specs.declared.points.Send.{Send}
 use Rattle.event_record.specs.declared.event.Event.{Event}
-use Rattle.station.specs.Owners.{owns, own, owner}
-use Rattle.station.specs.Told.{told_by}
-use Rattle.station.proofs.StationLemmas.{owner-at, IsFound, find-some}
+use Rattle.line_bank.specs.Owners.{owns, own, owner}
+use Rattle.line_bank.specs.Banks.{told_by}
+use Rattle.line_bank.proofs.BankLaws.{owner-at, IsFound, find-some}
+use Rattle.station.specs.Told.{tells_by}
 use Rattle.settings_read.specs.SettingsLaws.{LinesDiffer}
 use Rattle.settings_read.proofs.AcceptedFacts.{accepted-differ}
 use Rattle.relay_tool.specs.Output.{Item, Tells, event_item, send_items, items_of, malformed_item, burst_items, told_items, heard_items, solo, reading, sets_of, frame_items, heard, items_from, out}
@@ -116,16 +117,16 @@ name-apart lines line another a one foreign found = elim (cases_Bool (bytes_eq a
 part-heard : (settings : PlainSettings) (line : PlainLine) (a : PlainAsdu) (older : List PlainAsdu) → IsOne settings.lines line →
     part line.name (heard_items settings (a ∷ older)) ≡ (if owns line a then burst_items settings.common line (a ∷ own line older) else [])
 part-heard settings line a older one = elim (cases_Bool (owns line a)) [
-  | inl mine ↦ rw mine (ap (λ o. part line.name (told_items settings.common (option_map (told_by settings a older) o))) (owner-at settings.lines a one.place line one.differ.sv_ids one.within one.is mine)
+  | inl mine ↦ rw mine (ap (λ o. part line.name (told_items settings.common (option_map (told_by (tells_by settings) a older) o))) (owner-at settings.lines a one.place line one.differ.sv_ids one.within (subst (λ l. owns l a ≡ true) (sym (one.is line)) mine) ∙ ap (λ l. Some l) (one.is line))
       ∙ part-burst settings.common line.name line (burst settings.common line (a ∷ own line older))
       ∙ ap (λ (b : Bool). if b then burst_items settings.common line (a ∷ own line older) else []) (bytes_eq-refl line.name))
   | inr foreign ↦ rw foreign (others (owner a settings.lines) refl foreign)
 ]
   where
-    others : (o : Option PlainLine) → owner a settings.lines ≡ o → owns line a ≡ false → part line.name (told_items settings.common (option_map (told_by settings a older) (owner a settings.lines))) ≡ []
-    others None found foreign = ap (λ o. part line.name (told_items settings.common (option_map (told_by settings a older) o))) found
+    others : (o : Option PlainLine) → owner a settings.lines ≡ o → owns line a ≡ false → part line.name (told_items settings.common (option_map (told_by (tells_by settings) a older) (owner a settings.lines))) ≡ []
+    others None found foreign = ap (λ o. part line.name (told_items settings.common (option_map (told_by (tells_by settings) a older) o))) found
     others (Some another) found foreign =
-        ap (λ o. part line.name (told_items settings.common (option_map (told_by settings a older) o))) found
+        ap (λ o. part line.name (told_items settings.common (option_map (told_by (tells_by settings) a older) o))) found
         ∙ part-burst settings.common line.name another (burst settings.common another (a ∷ own another older))
         ∙ ap (λ (b : Bool). if b then burst_items settings.common another (a ∷ own another older) else []) (name-apart settings.lines line another a one foreign found)
 

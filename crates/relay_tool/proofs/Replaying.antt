@@ -1,4 +1,4 @@
--- The ends of `replay`, and of what it shares with other commands.
+-- The ends of a command over a capture, and of what it shares with other commands.
 use Rattle.std.proofs.Common.{◌≡◌, ◌≢◌, ◌∙◌, inl, inr, ℕ, Bool, false, IsTrue, List, [], ◌∷◌, ◌++◌, length, refl, sym, ap, subst, arith, append_assoc, append-nil, length-append}
 use Rattle.std.specs.Prelude.{Option, None, Some, Result, Ok, Err, is_some}
 use Rattle.std.proofs.lemmas.Bool.{cases_Bool}
@@ -14,9 +14,10 @@ use Rattle.relay_settings.specs.declared.types.Settings.{Settings as SettingsRea
 use Rattle.settings_read.specs.Walk.{Refusal, refused as refusal}
 use Rattle.settings_read.specs.Accepted.{accepted}
 use Rattle.relay_tool.specs.Endings.{Ending, status_of, done, refused, not_capture, cut, damaged, too_long, fault, no_memory}
-use Rattle.relay_tool.specs.Words.{Names, Asked, replay, word}
-use Rattle.relay_tool.specs.Output.{Item, heard_items, out}
-use Rattle.relay_tool.specs.Run.{Run, refused_run, run_of, replay_by, records_run, content_of, ending_at, header_item, all_writes, most_capture}
+use Rattle.relay_tool.specs.Words.{Names, StudyNames, Study, Asked, replay, study, word}
+use Rattle.relay_tool.specs.Output.{Item, out}
+use Rattle.relay_tool.specs.Run.{Run, Job, replay_job, study_job, refused_run, run_of, job_by, job_run, records_run, content_of, ending_at, all_writes, most_capture}
+use Rattle.relay_tool.specs.Answers.{JobFault, CaptureFault}
 use Rattle.relay_tool.specs.Files.{IsWritten, IsWrittenFile, AreReady, Reaches, IsUnstarted, HasSettingsAlone, IsStarted, is_slot, is_written, written, front}
 use Rattle.relay_tool.specs.Making.{OnlyUses, Appends, StopsAt, FailsIn, Makes}
 use Rattle.relay_tool.specs.Leaving.{Gives, EndsAs, Leaves}
@@ -98,9 +99,9 @@ settings-end asked name stops.NoMemory read refuses end = memory-end asked read
 -- ---- the capture
 
 -- where the settings are accepted the run isn't refused
-not-refused : (s : PlainSettings) (o : Option Records) → status_of (records_run s o).ending ≡ 2 → ⊥
-not-refused s None e = cc
-not-refused s (Some found) e = stop found.stop e
+not-refused : (job : Job) (s : PlainSettings) (o : Option Records) → status_of (records_run job s o).ending ≡ 2 → ⊥
+not-refused job s None e = cc
+not-refused job s (Some found) e = stop found.stop e
   where
     stop : (x : Stop) → status_of (ending_at x (length found.bodies)) ≡ 2 → ⊥
     stop Whole p = cc
@@ -115,25 +116,31 @@ not-not_capture Cut n p = cc
 not-not_capture (Damaged size) n p = cc
 not-not_capture TooLong n p = cc
 
-no-answer : (s : PlainSettings) (o : Option Records) → (records_run s o).answer ≡ []
-no-answer s None = refl
-no-answer s (Some found) = refl
+-- a command over a capture is asked by its words
+pub record IsJob (asked : Asked) (job : Job) : Type 0 where
+  pub settings_word : word asked Settings ≡ Some job.settings
+  pub capture_word : word asked Capture ≡ Some job.capture
+  pub runs : (contents : List (List ℕ × List ℕ)) → run_of (Some asked) contents ≡ job_run job contents
+  pub faults : (old new : RoomState) → JobFault asked job old new → CaptureFault (Some asked) old new
 
-module _ (names : Names) where
-  abbrev asked : Asked
-  asked = replay names
+pub replay-is : (names : Names) → IsJob (replay names) (replay_job names)
+replay-is names = record { settings_word = refl; capture_word = refl; runs = λ contents. refl; faults = λ old new fault. fault }
 
+pub study-is : (s : Study) (names : StudyNames) → IsJob (study s names) (study_job s names)
+study-is s names = record { settings_word = refl; capture_word = refl; runs = λ contents. refl; faults = λ old new fault. fault }
+
+module _ (asked : Asked) (job : Job) (is : IsJob asked job) where
   abbrev Accepts : RoomState → PlainSettings → Type 0
-  Accepts a s = IsTrue a.tells → accepted (content_of a.contents names.settings) ≡ Ok s
+  Accepts a s = IsTrue a.tells → accepted (content_of a.contents job.settings) ≡ Ok s
 
-  run-by : (a : RoomState) (s : PlainSettings) → accepted (content_of a.contents names.settings) ≡ Ok s → run_of (Some asked) a.contents ≡ records_run s (records (content_of a.contents names.capture) most_capture)
-  run-by a s is = ap (λ x. replay_by x (content_of a.contents names.capture)) is
+  run-by : (a : RoomState) (s : PlainSettings) → accepted (content_of a.contents job.settings) ≡ Ok s → run_of (Some asked) a.contents ≡ records_run job s (records (content_of a.contents job.capture) most_capture)
+  run-by a s by = is.runs a.contents ∙ ap (λ x. job_by job x (content_of a.contents job.capture)) by
 
-  pub refuses : (a : RoomState) (r : Refusal) → accepted (content_of a.contents names.settings) ≡ Err r → run_of (Some asked) a.contents ≡ refused_run r
-  refuses a r is = ap (λ x. replay_by x (content_of a.contents names.capture)) is
+  pub refuses : (a : RoomState) (r : Refusal) → accepted (content_of a.contents job.settings) ≡ Err r → run_of (Some asked) a.contents ≡ refused_run r
+  refuses a r by = is.runs a.contents ∙ ap (λ x. job_by job x (content_of a.contents job.capture)) by
 
   -- the outputs are not opened yet
-  unopened-outputs : {a b d : RoomState} {feed : Feed} {r : Result (Unit {0}) CaptureStop} → Read asked a b → OpensCapture names.capture b d feed r → IsUnstarted d
+  pub unopened-outputs : {a b d : RoomState} {feed : Feed} {r : Result (Unit {0}) CaptureStop} → Read asked a b → OpensCapture job.capture b d feed r → IsUnstarted d
   unopened-outputs {a} {b} {d} read capture = record { each = go }
     where
       go : (slot : Slot) → IsWrittenFile slot → (at d slot).name ≡ None
@@ -144,30 +151,30 @@ module _ (names : Names) where
       go Note file = cc
       go Answer file = cc
 
-  stage-capture : {a b d : RoomState} {feed : Feed} {r : Result (Unit {0}) CaptureStop} → Read asked a b → OpensCapture names.capture b d feed r → Staged (Some asked) a d
-  stage-capture read capture = staged-at (Some asked) Capture names.capture refl refl read.stage capture.only capture.named capture.later
+  stage-capture : {a b d : RoomState} {feed : Feed} {r : Result (Unit {0}) CaptureStop} → Read asked a b → OpensCapture job.capture b d feed r → Staged (Some asked) a d
+  stage-capture read capture = staged-at (Some asked) Capture job.capture refl is.capture_word read.stage capture.only capture.named capture.later
 
   answer-still : {a h : RoomState} → IsUnused a → Staged (Some asked) a h → IsTrue a.tells → h.answer.bytes ≡ []
   answer-still unused stage told = ap (λ (s : SlotState). s.bytes) stage.answer ∙ unused.answer told
 
   -- it ends the run
-  pub capture-end : {a b d : RoomState} {feed : Feed} (s : PlainSettings) (stop : CaptureStop) → Read asked a b → Accepts a s → Laws d → OpensCapture names.capture b d feed (Err stop) → Leaves (Some asked) a d (capture_ending stop)
+  pub capture-end : {a b d : RoomState} {feed : Feed} (s : PlainSettings) (stop : CaptureStop) → Read asked a b → Accepts a s → Laws d → OpensCapture job.capture b d feed (Err stop) → Leaves (Some asked) a d (capture_ending stop)
   capture-end {a} {b} {d} s stop read by law capture = go stop capture.end
     where
       told_b : IsTrue a.tells → IsTrue b.tells
       told_b told = read.stage.tells ∙ told
 
-      same : content_of b.contents names.capture ≡ content_of a.contents names.capture
-      same = ap (λ cs. content_of cs names.capture) read.stage.contents
+      same : content_of b.contents job.capture ≡ content_of a.contents job.capture
+      same = ap (λ cs. content_of cs job.capture) read.stage.contents
 
       unstarted : IsUnstarted d
       unstarted = unopened-outputs read capture
 
-      go : (x : CaptureStop) → CaptureEnd names.capture b d x → Leaves (Some asked) a d (capture_ending x)
+      go : (x : CaptureStop) → CaptureEnd job.capture b d x → Leaves (Some asked) a d (capture_ending x)
       go captures.NotCapture end = leaves asked not_capture (stage-capture read capture) (record {
         usage = (λ e. cc, λ e. cc);
         gives = λ told.
-            subst (λ (r : Run). Gives r not_capture d) (sym (run-by a s (by told) ∙ ap (records_run s) (ap (λ xs. records xs most_capture) (sym same) ∙ (end (told_b told)).records most_capture)))
+            subst (λ (r : Run). Gives r not_capture d) (sym (run-by a s (by told) ∙ ap (records_run job s) (ap (λ xs. records xs most_capture) (sym same) ∙ (end (told_b told)).records most_capture)))
             (record { ends_as = refl; files = nothing law unstarted; answer = answer-still read.unused (stage-capture read capture) told });
         started = λ e. cc;
         unstarted = λ _. unstarted;
@@ -180,8 +187,8 @@ module _ (names : Names) where
           reached = λ told. unbegun (Some asked) Capture (run_of (Some asked) a.contents).writes (nothing law unstarted) (λ e. cc);
           answer = λ told. (0, answer-still read.unused (stage-capture read capture) told);
           settings = λ e. cc;
-          capture = λ _. inl (record { unstarted = unstarted; taken = λ told ready. let t = end.taken (told_b told) ready in (t.0, t.1, sym same ∙ t.2) });
-          accepted = λ told two. absurd (not-refused s (records (content_of a.contents names.capture) most_capture) (sym (ap (λ (r : Run). status_of r.ending) (run-by a s (by told))) ∙ two));
+          capture = λ _. is.faults a d (inl (record { unstarted = unstarted; taken = λ told ready. let t = end.taken (told_b told) ready in (t.0, t.1, sym same ∙ t.2) }));
+          accepted = λ told two. absurd (not-refused job s (records (content_of a.contents job.capture) most_capture) (sym (ap (λ (r : Run). status_of r.ending) (run-by a s (by told))) ∙ two));
           header = λ _ _. inr refl;
         },
       )
@@ -206,28 +213,28 @@ module _ (names : Names) where
 
   -- what is known behind the capture's header
   pub record Known (a : RoomState) (s : PlainSettings) (feed : Feed) (left : List ℕ) : Type 0 where
-    pub accepted : accepted (content_of a.contents names.settings) ≡ Ok s
-    pub begun : Begins feed (content_of a.contents names.capture) left
+    pub accepted : accepted (content_of a.contents job.settings) ≡ Ok s
+    pub begun : Begins feed (content_of a.contents job.capture) left
     pub limit : feed.limit ≡ most_capture
 
   -- the records of the capture that was begun
   all-of : {a : RoomState} {s : PlainSettings} {feed : Feed} {left : List ℕ} → (k : Known a s feed left) → (more : List ℕ) → records (k.begun.prefix ++ more) most_capture ≡ Some (found feed more)
   all-of {a} {s} {feed} k more = ap (λ n. records (k.begun.prefix ++ more) n) (sym k.limit) ∙ k.begun.all more
 
-  run-found : {a : RoomState} {s : PlainSettings} {feed : Feed} {left : List ℕ} → Known a s feed left → run_of (Some asked) a.contents ≡ records_run s (Some (found feed left))
-  run-found {a} {s} {feed} {left} k = run-by a s k.accepted ∙ ap (records_run s) (ap (λ xs. records xs most_capture) k.begun.is ∙ all-of k left)
+  run-found : {a : RoomState} {s : PlainSettings} {feed : Feed} {left : List ℕ} → Known a s feed left → run_of (Some asked) a.contents ≡ records_run job s (Some (found feed left))
+  run-found {a} {s} {feed} {left} k = run-by a s k.accepted ∙ ap (records_run job s) (ap (λ xs. records xs most_capture) k.begun.is ∙ all-of k left)
 
   -- the capture is open, and some outputs may be
   pub record Begun (a h : RoomState) (s : PlainSettings) (feed : Feed) : Type 0 where
     pub unused : IsUnused a
     pub stage : Staged (Some asked) a h
-    pub settings : h.settings.name ≡ Some names.settings
-    pub capture : h.capture.name ≡ Some names.capture
+    pub settings : h.settings.name ≡ Some job.settings
+    pub capture : h.capture.name ≡ Some job.capture
     pub ready : IsTrue h.capture.is_ready
     pub empty : IsTrue a.tells → IsWritten [] h
     pub known : IsTrue a.tells → Known a s feed h.capture.bytes
 
-  pub begun : {a b d : RoomState} {feed : Feed} {r : SettingsRead} (s : PlainSettings) → Read asked a b → Accepts a s → Laws d → ReadsSettings names.settings a b (Ok r) → OpensCapture names.capture b d feed (Ok tt) → Begun a d s feed
+  pub begun : {a b d : RoomState} {feed : Feed} {r : SettingsRead} (s : PlainSettings) → Read asked a b → Accepts a s → Laws d → ReadsSettings job.settings a b (Ok r) → OpensCapture job.capture b d feed (Ok tt) → Begun a d s feed
   begun {a} {b} {d} {feed} s read by law reads capture = record {
     unused = read.unused;
     stage = stage-capture read capture;
@@ -237,14 +244,14 @@ module _ (names : Names) where
     empty = λ told. nothing law (unopened-outputs read capture);
     known = λ told. record {
       accepted = by told;
-      begun = subst (λ cs. Begins feed (content_of cs names.capture) d.capture.bytes) read.stage.contents (capture.begun (read.stage.tells ∙ told));
+      begun = subst (λ cs. Begins feed (content_of cs job.capture) d.capture.bytes) read.stage.contents (capture.begun (read.stage.tells ∙ told));
       limit = capture.live.1;
     };
   }
 
   -- an output that could not be opened ends it, or a write to one
   fails-end : {a h : RoomState} {s : PlainSettings} {feed : Feed} (left : List ℕ) (slot : Slot) → IsUnused a → Staged (Some asked) a h → IsWrittenFile slot → Rose (at a slot).faults (at h slot).faults →
-      (IsTrue a.tells → Known a s feed left) → (IsTrue a.tells → Reaches (Some asked) slot (all_writes s (found feed left).bodies) h) → Leaves (Some asked) a h (fault slot)
+      (IsTrue a.tells → Known a s feed left) → (IsTrue a.tells → Reaches (Some asked) slot (all_writes job s (found feed left).bodies) h) → Leaves (Some asked) a h (fault slot)
   fails-end {a} {h} {s} {feed} left slot unused stage file rose known reached = leaves asked (fault slot) stage (
     (λ e. cc),
     record {
@@ -254,7 +261,7 @@ module _ (names : Names) where
       answer = λ told. (0, answer-still unused stage told);
       settings = λ e. absurd (streams-settings (subst IsWrittenFile e file));
       capture = λ e. absurd (streams-capture (subst IsWrittenFile e file));
-      accepted = λ told two. absurd (not-refused s (Some (found feed left)) (sym (ap (λ (r : Run). status_of r.ending) (run-found (known told))) ∙ two));
+      accepted = λ told two. absurd (not-refused job s (Some (found feed left)) (sym (ap (λ (r : Run). status_of r.ending) (run-found (known told))) ∙ two));
       header = λ told none. absurd (not-not_capture (found feed left).stop (length (found feed left).bodies) (sym (ap (λ (r : Run). r.ending) (run-found (known told))) ∙ none));
     },
   )
@@ -285,7 +292,7 @@ module _ (names : Names) where
       (fails-end d.capture.bytes slot before.unused (stage-output slot name file is before opens) file
       (let h = before.stage.later slot in let r : Rose (at d slot).faults (at e slot).faults = opens.end.rose in omega arith)
       before.known
-      (λ told. unbegun (Some asked) slot (all_writes s (found feed d.capture.bytes).bodies) (empty-output slot name before opens told)
+      (λ told. unbegun (Some asked) slot (all_writes job s (found feed d.capture.bytes).bodies) (empty-output slot name before opens told)
       (λ _ ready. clash (sym (ready slot file (ap is_some is)) ∙ opens.end.shut))))
 
   pub output-open : {a d e : RoomState} {s : PlainSettings} {feed : Feed} (slot : Slot) (name : List ℕ) → IsWrittenFile slot → word asked slot ≡ Some name → Begun a d s feed → OpensOutput slot name d e (Ok tt) → Begun a e s feed
@@ -304,28 +311,6 @@ module _ (names : Names) where
     pub begun : Begun a f s feed
     pub start : IsStarted (Some asked) f
 
-  pub all-open : {a d e f : RoomState} {s : PlainSettings} {feed : Feed} → Begun a d s feed → OpensOutput Goose names.goose d e (Ok tt) → OpensOutput Log names.log e f (Ok tt) → Opened a f s feed
-  all-open {a} {d} {e} {f} {s} {feed} before goose log =
-      let first = output-open Goose names.goose refl refl before goose in
-      let both = output-open Log names.log refl refl first log in
-      record { begun = both; start = record { named = named both; ready = ready } }
-    where
-      named : Begun a f s feed → (slot : Slot) → IsFile slot → (at f slot).name ≡ word asked slot
-      named both Settings file = both.settings
-      named both Capture file = both.capture
-      named both Goose file = ap (λ (x : SlotState). x.name) (kept-at Goose log.only refl) ∙ goose.named
-      named both Log file = log.named
-      named both Note file = cc
-      named both Answer file = cc
-
-      ready : AreReady (Some asked) f
-      ready Settings file some = cc
-      ready Capture file some = cc
-      ready Goose file some = ap (λ (x : SlotState). x.is_ready) (kept-at Goose log.only refl) ∙ goose.ready
-      ready Log file some = log.ready
-      ready Note file some = cc
-      ready Answer file some = cc
-
   -- ---- what is written
 
   -- what was appended to empty outputs
@@ -335,15 +320,15 @@ module _ (names : Names) where
   reaches-by : {f h : RoomState} (slot : Slot) (ws : List Item) → IsWritten [] f → StopsAt slot ws f h → Reaches (Some asked) slot ws h
   reaches-by slot ws empty stop = record { whole = stop.whole; part = stop.part; written = written-all (front stop.whole stop.part ws) empty stop.appended; next = λ _ _. stop.next }
 
-  -- the header could not be written
-  pub header-end : {a f : RoomState} {s : PlainSettings} {feed : Feed} (g : RoomState) (failed : Failed) → Opened a f s feed → Makes (header_item ∷ []) f g (Err failed) → Leaves (Some asked) a g (fault failed.slot)
+  -- what comes before the records could not be written
+  pub header-end : {a f : RoomState} {s : PlainSettings} {feed : Feed} (g : RoomState) (failed : Failed) → Opened a f s feed → Makes job.head f g (Err failed) → Leaves (Some asked) a g (fault failed.slot)
   header-end {a} {f} {s} {feed} g failed opened made =
-      let fails : FailsIn failed.slot (all_writes s (found feed f.capture.bytes).bodies) f g =
-      FailsIn-lift failed.slot [] (header_item ∷ []) (out (heard_items s) (found feed f.capture.bytes).bodies) g (OnlyUses-refl is_written f) (λ told. Appends-nothing f) made.end in
+      let fails : FailsIn failed.slot (all_writes job s (found feed f.capture.bytes).bodies) f g =
+      FailsIn-lift failed.slot [] job.head (out (job.tells s) (found feed f.capture.bytes).bodies) g (OnlyUses-refl is_written f) (λ told. Appends-nothing f) made.end in
       fails-end f.capture.bytes failed.slot opened.begun.unused (staged-uses (Some asked) refl refl opened.begun.stage made.only) fails.output
       (let h = opened.begun.stage.later failed.slot in let r : Rose (at f failed.slot).faults (at g failed.slot).faults = fails.rose in omega arith)
       opened.begun.known
-      (λ told. reaches-by failed.slot (all_writes s (found feed f.capture.bytes).bodies) (opened.begun.empty told) (fails.stops (opened.begun.stage.tells ∙ told)))
+      (λ told. reaches-by failed.slot (all_writes job s (found feed f.capture.bytes).bodies) (opened.begun.empty told) (fails.stops (opened.begun.stage.tells ∙ told)))
 
   started-uses : {used : Slot → Bool} {f h : RoomState} → IsStarted (Some asked) f → OnlyUses used f h → IsStarted (Some asked) h
   started-uses start only = record {
@@ -351,7 +336,7 @@ module _ (names : Names) where
     ready = λ slot file some. (only.each slot).ready ∙ start.ready slot file some;
   }
 
-  module _ {a f g : RoomState} {s : PlainSettings} {feed : Feed} (opened : Opened a f s feed) (made : Makes (header_item ∷ []) f g (Ok tt)) where
+  module _ {a f g : RoomState} {s : PlainSettings} {feed : Feed} (opened : Opened a f s feed) (made : Makes job.head f g (Ok tt)) where
     stage_g : Staged (Some asked) a g
     stage_g = staged-uses (Some asked) refl refl opened.begun.stage made.only
 
@@ -367,23 +352,23 @@ module _ (names : Names) where
     known_g : IsTrue a.tells → Known a s feed g.capture.bytes
     known_g told = subst (λ xs. Known a s feed xs) (sym left) (opened.begun.known told)
 
-    -- the header, and then these writes
-    header-then : (h : RoomState) (bodies : List (List ℕ)) → IsTrue a.tells → Appends (out (heard_items s) bodies) g h → IsWritten (all_writes s bodies) h
-    header-then h bodies told all = written-all (all_writes s bodies) (opened.begun.empty told) (Appends-more (made.all (told_f told)) all)
+    -- what comes before the records, and then these writes
+    header-then : (h : RoomState) (bodies : List (List ℕ)) → IsTrue a.tells → Appends (out (job.tells s) bodies) g h → IsWritten (all_writes job s bodies) h
+    header-then h bodies told all = written-all (all_writes job s bodies) (opened.begun.empty told) (Appends-more (made.all (told_f told)) all)
 
     -- a write of a record failed
-    write-end : (h : RoomState) (slot : Slot) → Staged (Some asked) a h → FailsIn slot (out (heard_items s) (found feed g.capture.bytes).bodies) g h → Leaves (Some asked) a h (fault slot)
+    write-end : (h : RoomState) (slot : Slot) → Staged (Some asked) a h → FailsIn slot (out (job.tells s) (found feed g.capture.bytes).bodies) g h → Leaves (Some asked) a h (fault slot)
     write-end h slot stage fails =
-        let whole : FailsIn slot (all_writes s (found feed g.capture.bytes).bodies) f h =
-        subst (λ (ws : List Item). FailsIn slot (header_item ∷ ws) f h) (append-nil (out (heard_items s) (found feed g.capture.bytes).bodies))
-        (FailsIn-lift slot (header_item ∷ []) (out (heard_items s) (found feed g.capture.bytes).bodies) [] h made.only made.all fails) in
+        let whole : FailsIn slot (all_writes job s (found feed g.capture.bytes).bodies) f h =
+        subst (λ (ws : List Item). FailsIn slot (job.head ++ ws) f h) (append-nil (out (job.tells s) (found feed g.capture.bytes).bodies))
+        (FailsIn-lift slot job.head (out (job.tells s) (found feed g.capture.bytes).bodies) [] h made.only made.all fails) in
         fails-end g.capture.bytes slot opened.begun.unused stage fails.output
         (let x = stage_g.later slot in let r : Rose (at g slot).faults (at h slot).faults = fails.rose in omega arith)
         known_g
-        (λ told. reaches-by slot (all_writes s (found feed g.capture.bytes).bodies) (opened.begun.empty told) (whole.stops (told_f told)))
+        (λ told. reaches-by slot (all_writes job s (found feed g.capture.bytes).bodies) (opened.begun.empty told) (whole.stops (told_f told)))
 
     -- a read of the capture failed
-    read-end : (h : RoomState) (slot : Slot) → Staged (Some asked) a h → IsStarted (Some asked) h → IsTrue h.capture.is_ready → BreaksOff slot (heard_items s) (found feed) g.capture.bytes g h → Leaves (Some asked) a h (fault slot)
+    read-end : (h : RoomState) (slot : Slot) → Staged (Some asked) a h → IsStarted (Some asked) h → IsTrue h.capture.is_ready → BreaksOff slot (job.tells s) (found feed) g.capture.bytes g h → Leaves (Some asked) a h (fault slot)
     read-end h slot stage start ready breaks = subst (λ x. Leaves (Some asked) a h (fault x)) (sym breaks.capture) (leaves asked (fault Capture) stage (
       (λ e. cc),
       record {
@@ -392,9 +377,9 @@ module _ (names : Names) where
         reached = λ told.
             let k = known_g told in
             let b = breaks.at (told_g told) in
-            let made_items : List Item = all_writes s (found feed b.front).bodies in
+            let made_items : List Item = all_writes job s (found feed b.front).bodies in
             subst (λ (r : Run). Reaches (Some asked) Capture r.writes h) (sym (run-found k))
-            (subst (λ (items : List Item). Reaches (Some asked) Capture (header_item ∷ items) h) (sym b.more) (record {
+            (subst (λ (items : List Item). Reaches (Some asked) Capture items h) (sym (ap (λ items. job.head ++ items) b.more ∙ sym (append_assoc job.head (out (job.tells s) (found feed b.front).bodies) b.rest))) (record {
               whole = length made_items;
               part = 0;
               written = record { each = λ x file. (header-then h (found feed b.front).bodies told b.written).each x file ∙ sym (front-all x made_items b.rest) };
@@ -402,7 +387,7 @@ module _ (names : Names) where
             }));
         answer = λ told. (0, answer-still opened.begun.unused stage told);
         settings = λ e. cc;
-        capture = λ _. inr (record {
+        capture = λ _. is.faults a h (inr (record {
           started = start;
           ready = ready;
           reached = λ told.
@@ -419,33 +404,33 @@ module _ (names : Names) where
                 records = all-of k b.front;
                 written = header-then h (found feed b.front).bodies told b.written;
               };
-        });
-        accepted = λ told two. absurd (not-refused s (Some (found feed g.capture.bytes)) (sym (ap (λ (r : Run). status_of r.ending) (run-found (known_g told))) ∙ two));
+        }));
+        accepted = λ told two. absurd (not-refused job s (Some (found feed g.capture.bytes)) (sym (ap (λ (r : Run). status_of r.ending) (run-found (known_g told))) ∙ two));
         header = λ _ _. inr refl;
       },
     ))
 
     -- the capture stopped
-    stop-end : (h : RoomState) (stop : Stopped) → Staged (Some asked) a h → IsStarted (Some asked) h → (IsTrue g.tells → StopsAsFound (heard_items s) (found feed g.capture.bytes) g h stop) → Leaves (Some asked) a h (ending_of_stop stop)
+    stop-end : (h : RoomState) (stop : Stopped) → Staged (Some asked) a h → IsStarted (Some asked) h → (IsTrue g.tells → StopsAsFound (job.tells s) (found feed g.capture.bytes) g h stop) → Leaves (Some asked) a h (ending_of_stop stop)
     stop-end h stop stage start stops_as = go stop stops_as
       where
-        gives : (x : Stopped) → (IsTrue g.tells → StopsAsFound (heard_items s) (found feed g.capture.bytes) g h x) → IsTrue a.tells → Gives (run_of (Some asked) a.contents) (ending_of_stop x) h
+        gives : (x : Stopped) → (IsTrue g.tells → StopsAsFound (job.tells s) (found feed g.capture.bytes) g h x) → IsTrue a.tells → Gives (run_of (Some asked) a.contents) (ending_of_stop x) h
         gives x says told =
             let k = known_g told in
             let w = says (told_g told) in
             subst (λ (r : Run). Gives r (ending_of_stop x) h) (sym (run-found k))
             (record { ends_as = sym w.ending; files = header-then h (found feed g.capture.bytes).bodies told w.written; answer = answer-still opened.begun.unused stage told })
 
-        go : (x : Stopped) → (IsTrue g.tells → StopsAsFound (heard_items s) (found feed g.capture.bytes) g h x) → Leaves (Some asked) a h (ending_of_stop x)
+        go : (x : Stopped) → (IsTrue g.tells → StopsAsFound (job.tells s) (found feed g.capture.bytes) g h x) → Leaves (Some asked) a h (ending_of_stop x)
         go stopped.Whole says = leaves asked done stage (record { usage = (λ e. cc, λ e. cc); gives = gives stopped.Whole says; started = λ _. start; unstarted = λ no. absurd (no refl) })
         go (stopped.Cut n) says = leaves asked (cut n) stage (record { usage = (λ e. cc, λ e. cc); gives = gives (stopped.Cut n) says; started = λ _. start; unstarted = λ no. absurd (no refl) })
         go (stopped.Damaged n size) says = leaves asked (damaged n size) stage (record { usage = (λ e. cc, λ e. cc); gives = gives (stopped.Damaged n size) says; started = λ _. start; unstarted = λ no. absurd (no refl) })
         go (stopped.TooLong n) says = leaves asked (too_long n) stage (record { usage = (λ e. cc, λ e. cc); gives = gives (stopped.TooLong n) says; started = λ _. start; unstarted = λ no. absurd (no refl) })
 
-    pub stops-end : (h : RoomState) (stop : Stopped) → Runs (heard_items s) (found feed) g h (Ok stop) → Leaves (Some asked) a h (ending_of_stop stop)
+    pub stops-end : (h : RoomState) (stop : Stopped) → Runs (job.tells s) (found feed) g h (Ok stop) → Leaves (Some asked) a h (ending_of_stop stop)
     stops-end h stop runs = stop-end h stop (staged-uses (Some asked) refl refl stage_g runs.only) (started-uses (started-uses opened.start made.only) runs.only) runs.stops
 
-    pub fault-end : (h : RoomState) (failed : Failed) → Runs (heard_items s) (found feed) g h (Err failed) → Leaves (Some asked) a h (fault failed.slot)
+    pub fault-end : (h : RoomState) (failed : Failed) → Runs (job.tells s) (found feed) g h (Err failed) → Leaves (Some asked) a h (fault failed.slot)
     fault-end h failed runs =
         let stage = staged-uses (Some asked) refl refl stage_g runs.only in
         let start = started-uses (started-uses opened.start made.only) runs.only in
@@ -453,3 +438,50 @@ module _ (names : Names) where
           | inl breaks ↦ read-end h failed.slot stage start ((runs.only.each Capture).ready ∙ ((made.only.each Capture).ready ∙ opened.begun.ready)) breaks
           | inr fails ↦ write-end h failed.slot stage fails
         ]
+
+-- ---- all files are open
+
+pub replay-open : (names : Names) {a d e f : RoomState} {s : PlainSettings} {feed : Feed} → Begun (replay names) (replay_job names) (replay-is names) a d s feed →
+    OpensOutput Goose names.goose d e (Ok tt) → OpensOutput Log names.log e f (Ok tt) → Opened (replay names) (replay_job names) (replay-is names) a f s feed
+replay-open names {a} {d} {e} {f} {s} {feed} before goose log =
+    let first = output-open (replay names) (replay_job names) (replay-is names) Goose names.goose refl refl before goose in
+    let both = output-open (replay names) (replay_job names) (replay-is names) Log names.log refl refl first log in
+    record { begun = both; start = record { named = named both; ready = ready } }
+  where
+    named : Begun (replay names) (replay_job names) (replay-is names) a f s feed → (slot : Slot) → IsFile slot → (at f slot).name ≡ word (replay names) slot
+    named both Settings file = both.settings
+    named both Capture file = both.capture
+    named both Goose file = ap (λ (x : SlotState). x.name) (kept-at Goose log.only refl) ∙ goose.named
+    named both Log file = log.named
+    named both Note file = cc
+    named both Answer file = cc
+
+    ready : AreReady (Some (replay names)) f
+    ready Settings file some = cc
+    ready Capture file some = cc
+    ready Goose file some = ap (λ (x : SlotState). x.is_ready) (kept-at Goose log.only refl) ∙ goose.ready
+    ready Log file some = log.ready
+    ready Note file some = cc
+    ready Answer file some = cc
+
+pub study-open : (x : Study) (names : StudyNames) {a d e : RoomState} {s : PlainSettings} {feed : Feed} → IsUnstarted d → Begun (study x names) (study_job x names) (study-is x names) a d s feed →
+    OpensOutput Log names.log d e (Ok tt) → Opened (study x names) (study_job x names) (study-is x names) a e s feed
+study-open x names {a} {d} {e} {s} {feed} unstarted before log =
+    let open_log = output-open (study x names) (study_job x names) (study-is x names) Log names.log refl refl before log in
+    record { begun = open_log; start = record { named = named open_log; ready = ready } }
+  where
+    named : Begun (study x names) (study_job x names) (study-is x names) a e s feed → (slot : Slot) → IsFile slot → (at e slot).name ≡ word (study x names) slot
+    named both Settings file = both.settings
+    named both Capture file = both.capture
+    named both Goose file = ap (λ (y : SlotState). y.name) (kept-at Goose log.only refl) ∙ unstarted.each Goose refl
+    named both Log file = log.named
+    named both Note file = cc
+    named both Answer file = cc
+
+    ready : AreReady (Some (study x names)) e
+    ready Settings file some = cc
+    ready Capture file some = cc
+    ready Goose file some = cc
+    ready Log file some = log.ready
+    ready Note file some = cc
+    ready Answer file some = cc

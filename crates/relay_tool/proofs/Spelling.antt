@@ -36,33 +36,30 @@ number-none word none = elim (cases_Bool (bytes_eq (decimal (digits_value 10 wor
   | inr other ↦ rw other refl
 ]
 
--- what is within a greater range, within a smaller one
-pub within-less : (spells : Option ℕ) (n : ℕ) → within 0 (2 ^ 64 - 1) spells ≡ Some n → (1 ≤ n) → (n ≤ 600) → within 1 600 spells ≡ Some n
-within-less None n e above below = cc
-within-less (Some x) n e above below = elim (cases_Bool (nat_le 0 x && nat_le x (2 ^ 64 - 1))) [
-  | inl both ↦ (let same : x ≡ n = some-some (rw both at e) in ap (λ y. within 1 600 (Some y)) same ∙ within-is 1 600 n above below)
+some-some : {a b : ℕ} → Some a ≡ Some b → a ≡ b
+some-some p = cc
+
+-- what is within the greatest range, within a smaller one
+pub within-less : (low high : ℕ) (spells : Option ℕ) (n : ℕ) → within 0 (2 ^ 64 - 1) spells ≡ Some n → low ≤ n → n ≤ high → within low high spells ≡ Some n
+within-less low high None n e above below = cc
+within-less low high (Some x) n e above below = elim (cases_Bool (nat_le 0 x && nat_le x (2 ^ 64 - 1))) [
+  | inl both ↦ (let same : x ≡ n = some-some (rw both at e) in ap (λ y. within low high (Some y)) same ∙ within-is low high n above below)
   | inr out ↦ (let no = rw out at e in cc)
 ]
-  where
-    some-some : {a b : ℕ} → Some a ≡ Some b → a ≡ b
-    some-some p = cc
 
-pub within-out : (spells : Option ℕ) (n : ℕ) → within 0 (2 ^ 64 - 1) spells ≡ Some n → (1 ≤ n → n ≤ 600 → ⊥) → within 1 600 spells ≡ None
-within-out None n e not = refl
-within-out (Some x) n e not = elim (cases_Bool (nat_le 0 x && nat_le x (2 ^ 64 - 1))) [
-  | inl both ↦ (let same : x ≡ n = some-some (rw both at e) in ap (λ y. within 1 600 (Some y)) same ∙ within-not 1 600 n not)
+pub within-out : (low high : ℕ) (spells : Option ℕ) (n : ℕ) → within 0 (2 ^ 64 - 1) spells ≡ Some n → (low ≤ n → n ≤ high → ⊥) → within low high spells ≡ None
+within-out low high None n e not = refl
+within-out low high (Some x) n e not = elim (cases_Bool (nat_le 0 x && nat_le x (2 ^ 64 - 1))) [
+  | inl both ↦ (let same : x ≡ n = some-some (rw both at e) in ap (λ y. within low high (Some y)) same ∙ within-not low high n not)
   | inr out ↦ (let no = rw out at e in cc)
 ]
-  where
-    some-some : {a b : ℕ} → Some a ≡ Some b → a ≡ b
-    some-some p = cc
 
-pub within-gone : (spells : Option ℕ) → within 0 (2 ^ 64 - 1) spells ≡ None → within 1 600 spells ≡ None
-within-gone None e = refl
-within-gone (Some x) e = elim (cases_Bool (nat_le 0 x && nat_le x (2 ^ 64 - 1))) [
+pub within-gone : (low high : ℕ) (spells : Option ℕ) → high < 2 ^ 64 → within 0 (2 ^ 64 - 1) spells ≡ None → within low high spells ≡ None
+within-gone low high None top e = refl
+within-gone low high (Some x) top e = elim (cases_Bool (nat_le 0 x && nat_le x (2 ^ 64 - 1))) [
   | inl both ↦ (let no = rw both at e in cc)
-  | inr out ↦ within-not 1 600 x (λ above below. large out below)
+  | inr out ↦ within-not low high x (λ above below. large out below)
 ]
   where
-    large : (nat_le 0 x && nat_le x (2 ^ 64 - 1)) ≡ false → x ≤ 600 → ⊥
+    large : (nat_le 0 x && nat_le x (2 ^ 64 - 1)) ≡ false → x ≤ high → ⊥
     large out below = let t : (nat_le 0 x && nat_le x (2 ^ 64 - 1)) ≡ true = grind (arith, nat_tests) in cc

@@ -13,8 +13,9 @@ use Rattle.event_record.specs.declared.time.At.{At}
 use Rattle.goose_publish.specs.declared.points.Send.{Send}
 use Rattle.goose_publish.specs.Frame.{frame_bytes}
 use Rattle.line_relay.specs.Bursts.{PlainBurst}
-use Rattle.station.specs.Owners.{owner, own}
-use Rattle.station.specs.Told.{Told, told_by}
+use Rattle.line_bank.specs.Owners.{owner, own}
+use Rattle.line_bank.specs.Banks.{told_by}
+use Rattle.station.specs.Told.{Told, tells_by}
 use Rattle.station.specs.KeptStation.{StandsFor, IsTold, lines_of}
 use Rattle.station.specs.declared.station.Station.{Station}
 use Rattle.line_relay.specs.KeptLine.{StandsFor as LineStandsFor}
@@ -47,13 +48,13 @@ events-failed common settings name slice events send {a} {b} {e} named is made =
 
 -- the owner's burst is what is written of a sample set
 pub told-made : (settings : PlainSettings) (past : List PlainAsdu) (a : PlainAsdu) (place : ℕ) (burst : PlainBurst) {x y : RoomState} {result : Result (Unit {0}) Failed} →
-    (told_is : IsTold settings past a place burst) → Makes (items_of settings.common told_is.line burst) x y result → Makes (heard_items settings (a ∷ past)) x y result
+    (told_is : IsTold settings (a ∷ past) place burst) → Makes (items_of settings.common told_is.line burst) x y result → Makes (heard_items settings (a ∷ past)) x y result
 told-made settings past a place burst {x} {y} {result} told_is made =
-    subst (λ (o : Option Told). Makes (told_items settings.common o) x y result) (sym told_is.told) made
+    subst (λ (o : Option Told). Makes (told_items settings.common o) x y result) (sym told_is.is) made
 
 -- nothing is written of a sample set that no line owns
 pub none-heard : (settings : PlainSettings) (past : List PlainAsdu) (a : PlainAsdu) → owner a settings.lines ≡ None → heard_items settings (a ∷ past) ≡ []
-none-heard settings past a none = ap (λ o. told_items settings.common (option_map (told_by settings a past) o)) none
+none-heard settings past a none = ap (λ o. told_items settings.common (option_map (told_by (tells_by settings) a past) o)) none
 
 -- the line at a place has heard its own
 pub line-stands : (settings : PlainSettings) (past : List PlainAsdu) (station : Station) (place : ℕ) (line : PlainLine) (held : Line) → StandsFor settings past station → place < length settings.lines →

@@ -9,8 +9,8 @@ use Rattle.capture_feed.specs.Captures.{records}
 use Rattle.relay_settings.specs.Settings.{PlainSettings}
 use Rattle.settings_read.specs.Accepted.{accepted}
 use Rattle.relay_tool.specs.Endings.{status_of, note_of, fault, no_memory, not_capture, done}
-use Rattle.relay_tool.specs.Words.{Names, Asked, replay, form}
-use Rattle.relay_tool.specs.Run.{Run, run_of, content_of, all_writes, most_capture}
+use Rattle.relay_tool.specs.Words.{Asked, replay, study, form}
+use Rattle.relay_tool.specs.Run.{Run, Job, replay_job, study_job, run_of, content_of, all_writes, most_capture}
 use Rattle.relay_tool.specs.Files.{IsWritten, Reaches, AreNamed, IsUnstarted, HasSettingsAlone, IsStarted}
 
 -- the note is a front of this text, and all of it where the count of Note did not rise
@@ -19,30 +19,34 @@ pub record IsNoted (text : List ℕ) (old new : RoomState) : Type 0 where
   pub whole : (Rose old.note.faults new.note.faults → ⊥) → new.note.bytes ≡ text
 
 -- A fault of the capture before its header was read: no output has a name, and where the capture is open, fewer than 24 bytes were taken.
-pub record IsFaultAtHeader (names : Names) (old new : RoomState) : Type 0 where
+pub record IsFaultAtHeader (job : Job) (old new : RoomState) : Type 0 where
   pub unstarted : IsUnstarted new
   pub taken : IsTrue old.tells → IsTrue new.capture.is_ready →
-      (taken : List ℕ) × (length taken < 24) × (content_of old.contents names.capture ≡ taken ++ new.capture.bytes)
+      (taken : List ℕ) × (length taken < 24) × (content_of old.contents job.capture ≡ taken ++ new.capture.bytes)
 
 -- What was taken of the capture, and what is written of its records.
-pub record IsReached (names : Names) (old new : RoomState) : Type 0 where
+pub record IsReached (job : Job) (old new : RoomState) : Type 0 where
   pub settings : PlainSettings
-  pub accepted : accepted (content_of old.contents names.settings) ≡ Ok settings
+  pub accepted : accepted (content_of old.contents job.settings) ≡ Ok settings
   pub taken : List ℕ
   pub long : 24 ≤ length taken
-  pub is : content_of old.contents names.capture ≡ taken ++ new.capture.bytes
+  pub is : content_of old.contents job.capture ≡ taken ++ new.capture.bytes
   pub found : Records
   pub records : records taken most_capture ≡ Some found
-  pub written : IsWritten (all_writes settings found.bodies) new
+  pub written : IsWritten (all_writes job settings found.bodies) new
 
 -- A fault of the capture behind its header: all files are open, and the outputs hold all that is written of the records that were taken.
-pub record IsFaultAtRecord (names : Names) (old new : RoomState) : Type 0 where
-  pub started : IsStarted (Some (replay names)) new
+pub record IsFaultAtRecord (asked : Asked) (job : Job) (old new : RoomState) : Type 0 where
+  pub started : IsStarted (Some asked) new
   pub ready : IsTrue new.capture.is_ready
-  pub reached : IsTrue old.tells → IsReached names old new
+  pub reached : IsTrue old.tells → IsReached job old new
+
+abbrev pub JobFault : Asked → Job → RoomState → RoomState → Type 0
+JobFault asked job old new = IsFaultAtHeader job old new ⊎ IsFaultAtRecord asked job old new
 
 abbrev pub CaptureFault : Option Asked → RoomState → RoomState → Type 0
-CaptureFault (Some (replay names)) old new = IsFaultAtHeader names old new ⊎ IsFaultAtRecord names old new
+CaptureFault (Some (replay names)) old new = JobFault (replay names) (replay_job names) old new
+CaptureFault (Some (study s names)) old new = JobFault (study s names) (study_job s names) old new
 CaptureFault asked old new = ⊥
 
 -- a call of this slot failed in the run that this is without faults

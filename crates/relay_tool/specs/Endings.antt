@@ -42,7 +42,7 @@ slot_text Answer = codes "answer"
 
 abbrev pub note_of : Ending → List ℕ
 note_of done = []
-note_of usage = codes "usage: relay replay SETTINGS CAPTURE GOOSE LOG or check SETTINGS or drill SEED SECONDS\n"
+note_of usage = codes "usage: relay replay SETTINGS CAPTURE GOOSE LOG or check SETTINGS or drill SEED SECONDS or backup SETTINGS CAPTURE LOG CURVE PICKUP TMS or locate SETTINGS CAPTURE LOG or guard SETTINGS CAPTURE LOG FAIL_MS DEAD_MS RECLAIM_MS\n"
 note_of (refused number key) = codes "settings refused " ++ decimal number ++ codes " " ++ key ++ codes "\n"
 note_of not_capture = codes "not a capture\n"
 note_of (cut records) = codes "capture cut after " ++ decimal records ++ codes " records\n"

@@ -14,5 +14,6 @@ pub mod Making
 pub mod Accepting
 pub mod Opening
 pub mod Lines
+pub mod Banks
 pub mod Running
 pub mod Leaving

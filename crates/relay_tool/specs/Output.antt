@@ -17,6 +17,17 @@ use Rattle.goose_publish.specs.Frame.{frame_bytes}
 use Rattle.capture_feed.specs.Written.{record_bytes}
 use Rattle.line_relay.specs.Bursts.{PlainBurst, burst}
 use Rattle.station.specs.Told.{Told, told}
+use Rattle.line_bank.specs.Banks.{TellsOf}
+use Rattle.inverse_time.specs.declared.event.BackupEvent.{BackupEvent}
+use Rattle.inverse_time.specs.BackupTexts.{backup_text}
+use Rattle.inverse_time.specs.BackupLines.{backup_told}
+use Rattle.fault_locate.specs.declared.located.Located.{Located}
+use Rattle.fault_locate.specs.LocateTexts.{located_text}
+use Rattle.fault_locate.specs.LocateLines.{located_told}
+use Rattle.breaker_guard.specs.declared.event.GuardEvent.{GuardEvent}
+use Rattle.breaker_guard.specs.GuardTexts.{guard_text}
+use Rattle.breaker_guard.specs.GuardLines.{guard_told}
+use Rattle.relay_tool.specs.Words.{Study, backup, locate, guard}
 use Rattle.room_io.specs.declared.room.Slot.{Slot}
 use Rattle.room_io.specs.declared.room.Slot.TheVariants.{Goose, Log}
 
@@ -58,11 +69,47 @@ solo common line asdus = in_order (burst_items common line) [] asdus
 
 abbrev pub told_items : Common → Option Told → List Item
 told_items common None = []
-told_items common (Some told) = items_of common told.line told.burst
+told_items common (Some told) = items_of common told.line told.told
 
 -- what the lines of a replay write of a sample set: the burst of the line that owns it
 abbrev pub heard_items : PlainSettings → Tells
 heard_items settings past = told_items settings.common (told settings past)
+
+-- ---- studies
+
+-- an inverse-time event of a line
+abbrev pub backup_item : List ℕ → BackupEvent → Item
+backup_item name event = record { slot = Log; line = Some name; bytes = backup_text name event }
+
+abbrev pub backup_items : Option (TellsOf (List BackupEvent)) → List Item
+backup_items None = []
+backup_items (Some told) = map (backup_item told.line.name) told.told
+
+-- a located fault of a line
+abbrev pub located_item : List ℕ → Located → Item
+located_item name located = record { slot = Log; line = Some name; bytes = located_text name located }
+
+abbrev pub some_located : List ℕ → Option Located → List Item
+some_located name None = []
+some_located name (Some located) = located_item name located ∷ []
+
+abbrev pub located_items : Option (TellsOf (Option Located)) → List Item
+located_items None = []
+located_items (Some told) = some_located told.line.name told.told
+
+-- an event of a line's breaker guard
+abbrev pub guard_item : List ℕ → GuardEvent → Item
+guard_item name event = record { slot = Log; line = Some name; bytes = guard_text name event }
+
+abbrev pub guard_items : Option (TellsOf (List GuardEvent)) → List Item
+guard_items None = []
+guard_items (Some told) = map (guard_item told.line.name) told.told
+
+-- what a study writes of the newest of some sample sets: what the line that owns it tells
+abbrev pub study_items : Study → PlainSettings → Tells
+study_items (backup dial) settings past = backup_items (backup_told settings dial past)
+study_items locate settings past = located_items (located_told settings past)
+study_items (guard times) settings past = guard_items (guard_told settings times past)
 
 -- ---- records
 

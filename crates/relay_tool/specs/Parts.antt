@@ -6,7 +6,7 @@ use Rattle.sv_frame.specs.Frame.{bad}
 use Rattle.sv_frame.specs.declared.Reason.{Reason}
 use Rattle.relay_settings.specs.Settings.{PlainLine, PlainSettings}
 use Rattle.settings_read.specs.Accepted.{accepted}
-use Rattle.station.specs.Owners.{own}
+use Rattle.line_bank.specs.Owners.{own}
 use Rattle.relay_tool.specs.Output.{Item, Tells, solo, reading, sets_of, heard, heard_items, items_from, out, malformed_item}
 
 -- whether an item is part of the line of this name

@@ -10,9 +10,9 @@ use Rattle.relay_settings.specs.Settings.{PlainLine, PlainSettings}
 use Rattle.settings_read.specs.Walk.{Answer, Refusal}
 use Rattle.settings_read.specs.Accepted.{accepted}
 use Rattle.relay_tool.specs.Endings.{Ending, done, usage, refused, not_capture, cut, damaged, too_long}
-use Rattle.relay_tool.specs.Words.{Asked, replay, check, drill}
+use Rattle.relay_tool.specs.Words.{Names, StudyNames, Study, Asked, replay, check, drill, study}
 use Rattle.relay_tool.specs.Tallies.{drill_summary}
-use Rattle.relay_tool.specs.Output.{Item, heard_items, out}
+use Rattle.relay_tool.specs.Output.{Item, Tells, heard_items, study_items, out}
 
 pub record Run : Type 0 where
   pub ending : Ending
@@ -39,25 +39,39 @@ ending_at TooLong records = too_long records
 abbrev pub header_item : Item
 header_item = record { slot = Goose; line = None; bytes = header_bytes }
 
+-- A command over a capture: its inputs, what it writes first, and what it writes of the newest of some sample sets.
+pub record Job : Type 0 where
+  pub settings : List ℕ
+  pub capture : List ℕ
+  pub head : List Item
+  pub tells : PlainSettings → Tells
+
+abbrev pub replay_job : Names → Job
+replay_job names = record { settings = names.settings; capture = names.capture; head = header_item ∷ []; tells = heard_items }
+
+-- a study writes nothing before the records
+abbrev pub study_job : Study → StudyNames → Job
+study_job s names = record { settings = names.settings; capture = names.capture; head = []; tells = study_items s }
+
 -- all that is written of a capture with these records
-abbrev pub all_writes : PlainSettings → List (List ℕ) → List Item
-all_writes settings bodies = header_item ∷ out (heard_items settings) bodies
+abbrev pub all_writes : Job → PlainSettings → List (List ℕ) → List Item
+all_writes job settings bodies = job.head ++ out (job.tells settings) bodies
 
 -- at most 2 ^ 40 bytes of a capture are read
 abbrev pub most_capture : ℕ
 most_capture = 2 ^ 40
 
-abbrev pub records_run : PlainSettings → Option Records → Run
-records_run settings None = ended not_capture
-records_run settings (Some found) = record {
+abbrev pub records_run : Job → PlainSettings → Option Records → Run
+records_run job settings None = ended not_capture
+records_run job settings (Some found) = record {
   ending = ending_at found.stop (length found.bodies);
   answer = [];
-  writes = all_writes settings found.bodies;
+  writes = all_writes job settings found.bodies;
 }
 
-abbrev pub replay_by : Answer PlainSettings → List ℕ → Run
-replay_by (Ok settings) capture = records_run settings (records capture most_capture)
-replay_by (Err refusal) capture = refused_run refusal
+abbrev pub job_by : Job → Answer PlainSettings → List ℕ → Run
+job_by job (Ok settings) capture = records_run job settings (records capture most_capture)
+job_by job (Err refusal) capture = refused_run refusal
 
 abbrev pub zones_in : List PlainLine → ℕ
 zones_in [] = 0
@@ -74,8 +88,12 @@ check_by (Err refusal) = refused_run refusal
 abbrev pub content_of : List (List ℕ × List ℕ) → List ℕ → List ℕ
 content_of contents name = unwrap_or (content contents name) []
 
+abbrev pub job_run : Job → List (List ℕ × List ℕ) → Run
+job_run job contents = job_by job (accepted (content_of contents job.settings)) (content_of contents job.capture)
+
 abbrev pub run_of : Option Asked → List (List ℕ × List ℕ) → Run
 run_of None contents = ended usage
 run_of (Some (check settings)) contents = check_by (accepted (content_of contents settings))
-run_of (Some (replay names)) contents = replay_by (accepted (content_of contents names.settings)) (content_of contents names.capture)
+run_of (Some (replay names)) contents = job_run (replay_job names) contents
+run_of (Some (study s names)) contents = job_run (study_job s names) contents
 run_of (Some (drill seed seconds)) contents = record { ending = done; answer = drill_summary seed seconds; writes = [] }

@@ -18,13 +18,13 @@ is_trip (Line at Trip) = true
 is_trip event = false
 
 abbrev pub events_of : Told → ℕ
-events_of told = length told.burst.events
+events_of told = length told.told.events
 
 abbrev pub sends_of : Told → ℕ
-sends_of told = if is_some told.burst.send then 1 else 0
+sends_of told = if is_some told.told.send then 1 else 0
 
 abbrev pub trips_of : Told → ℕ
-trips_of told = count_by is_trip told.burst.events
+trips_of told = count_by is_trip told.told.events
 
 abbrev pub count_of : (Told → ℕ) → Option Told → ℕ
 count_of count None = 0

@@ -10,6 +10,9 @@ use crate::put::Failed;
 use capture_feed::{Feed, FeedStop};
 use room_io::{Room, Slot};
 
+/// A record is asked for only while fewer bytes of the capture were taken.
+pub const MOST_CAPTURE: u64 = 1 << 40;
+
 /// Why no record of the capture is asked for.
 #[derive(Clone, Copy, Debug, Drop)]
 pub enum CaptureStop {

@@ -2,28 +2,33 @@
 //!
 //! `replay SETTINGS CAPTURE GOOSE LOG` reads settings and a capture and writes the event log and a
 //! GOOSE capture; `check SETTINGS` says whether settings would be accepted; `drill SEED SECONDS` runs an
-//! exercise and counts what it brings. `relay` does one of them in a fixed order of work, and its contract is
+//! exercise and counts what it brings; `backup`, `locate` and `guard` are studies, which read settings and a capture and
+//! write the log alone. `relay` does one of them in a fixed order of work, and its contract is
 //! the headline (`specs/Headline.antt`) with the statuses, notes, names and contents of every end
 //! (`specs/Answers.antt`).
 //!
 //! Each stage of the work has a file and an error type of its own: `words`, `settings`, `files`, `run`, `put`. A
-//! command chooses a bank (`bank`, here `lines`) and its outputs, and `run` treats a capture's records for any
+//! command chooses a bank (`bank`: `lines`, `backups`, `locators` or `guards`) and its outputs, and `run` treats a capture's records for any
 //! bank. It stands on the public contracts of the room, the feed, the settings and the station, and knows
 //! nothing of how frames are read or samples are measured.
 #![tactic(auto)]
 
+mod backups;
 mod bank;
 mod check;
 mod end;
 mod exercise;
 mod files;
+mod guards;
 mod laws;
 mod lines;
+mod locators;
 mod note;
 mod put;
 mod replay;
 mod run;
 mod settings;
+mod study;
 mod tally;
 mod top;
 mod words;

@@ -8,11 +8,11 @@ use crate::end::End;
 use arrayvec::ArrayVec;
 use room_io::Slot;
 
-/// A note: at most 160 bytes, ended by a newline where it isn't empty.
-pub type Note = ArrayVec<u8, 160>;
+/// A note: at most 288 bytes, ended by a newline where it isn't empty.
+pub type Note = ArrayVec<u8, 288>;
 
 pub fn append(out: &mut Note, text: &[u8])
-    requires { length out.old.items + length text.now ≤ 160 }
+    requires { length out.old.items + length text.now ≤ 288 }
     ensures bytes { out.new.items ≡ out.old.items ++ text.now }
     ensures long { length out.new.items ≤ length out.old.items + length text.now }
 {
@@ -20,7 +20,7 @@ pub fn append(out: &mut Note, text: &[u8])
 }
 
 pub fn put_number(out: &mut Note, number: u64)
-    requires { length out.old.items + 20 ≤ 160 }
+    requires { length out.old.items + 20 ≤ 288 }
     ensures bytes { out.new.items ≡ out.old.items ++ decimal number }
     ensures long { length out.new.items ≤ length out.old.items + 20 }
 {
@@ -28,7 +28,7 @@ pub fn put_number(out: &mut Note, number: u64)
 }
 
 pub fn text(words: &[u8]) -> Note
-    requires { length words.now ≤ 160 }
+    requires { length words.now ≤ 288 }
     ensures { result.items ≡ words.now }
 {
     let mut note = ArrayVec::new();
@@ -107,7 +107,7 @@ pub fn note_of(end: &End) -> Note
     match end {
         End::Done => ArrayVec::new(),
         End::Usage => text(
-            b"usage: relay replay SETTINGS CAPTURE GOOSE LOG or check SETTINGS or drill SEED SECONDS\n",
+            b"usage: relay replay SETTINGS CAPTURE GOOSE LOG or check SETTINGS or drill SEED SECONDS or backup SETTINGS CAPTURE LOG CURVE PICKUP TMS or locate SETTINGS CAPTURE LOG or guard SETTINGS CAPTURE LOG FAIL_MS DEAD_MS RECLAIM_MS\n",
         ),
         End::Refused { number, key } => refused(*number, key.as_str().as_bytes()),
         End::NotCapture => text(b"not a capture\n"),

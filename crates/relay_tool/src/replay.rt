@@ -11,7 +11,7 @@ ghost use Rattle.relay_tool.specs.Making.{Puts};
 ghost use Rattle.relay_tool.specs.Leaving.{Leaves};
 
 use crate::end::End;
-use crate::files::{open_capture, open_output};
+use crate::files::{MOST_CAPTURE, open_capture, open_output};
 use crate::lines::Lines;
 use crate::put::{Failed, put};
 use crate::run::{Stopped, run};
@@ -23,9 +23,6 @@ use room_io::{Room, Slot};
 use std::alloc::Global;
 use std::marker::Brand;
 use std::sync::ledger::Blank;
-
-/// A record is asked for only while fewer bytes of the capture were taken.
-const MOST_CAPTURE: u64 = 1 << 40;
 
 /// The whole job: the settings, all memory, the capture's header, the outputs, the records.
 pub fn replay<R: Room>(alloc: Global, files: &Files<'_>, room: &mut R) -> Result<Stopped, End>

@@ -12,6 +12,7 @@ use crate::end::{End, status_of};
 use crate::exercise::drill;
 use crate::note::note_of;
 use crate::replay::replay;
+use crate::study::study;
 use crate::words::{Command, parse};
 use room_io::{Room, Slot, write_whole};
 use std::alloc::Global;
@@ -56,6 +57,10 @@ fn perform<R: Room>(alloc: Global, words: &[String], room: &mut R) -> End
         },
         Some(Command::Drill { seed, seconds }) => match drill(alloc, seed, seconds, room) {
             Ok(()) => End::Done,
+            Err(end) => end,
+        },
+        Some(Command::Study(asked, files)) => match study(alloc, asked, &files, room) {
+            Ok(stopped) => End::from(stopped),
             Err(end) => end,
         },
         None => End::Usage,

@@ -1,13 +1,14 @@
 //! The words of the command line.
-ghost use Rattle.std.specs.Prelude.{◌≡◌, map, string_bytes, length, nat_le, ◌-◌, ◌^◌, ◌<◌};
+ghost use Rattle.std.specs.Prelude.{◌≡◌, map, string_bytes, length, nat_le, ◌-◌, ◌^◌, ◌<◌, ◌≤◌};
 ghost use Rattle.std.specs.Fmt.{decimal};
 ghost use Rattle.std.specs.Str.{bytes_eq};
 ghost use Rattle.std.specs.Option.{option_map};
 ghost use Rattle.std.specs.Option.{ForSome};
-ghost use Rattle.relay_tool.specs.Words.{form, are_short as are_short_names, spelled, within, drill_of as drill_asked};
-ghost use Rattle.relay_tool.specs.Asking.{names_of_files, asked_of, IsInRange};
+ghost use Rattle.relay_tool.specs.Words.{form, are_short as are_short_names, are_short_study as are_short_study_names, spelled, within, drill_of as drill_asked, backup_of as backup_asked, guard_of as guard_asked, curve_named as curve_by, study_names, studied};
+ghost use Rattle.relay_tool.specs.Asking.{names_of_files, names_of_study, study_of, asked_of, IsInRange, IsStudy};
 
 use arrayvec::ArrayVec;
+use inverse_time::Curve;
 use relay_num::put_decimal;
 
 /// The longest file word, in bytes.
@@ -22,6 +23,35 @@ pub struct Files<'a> {
     pub log: &'a str,
 }
 
+/// The files of a study.
+#[derive(Clone, Copy)]
+pub struct StudyFiles<'a> {
+    pub settings: &'a str,
+    pub capture: &'a str,
+    pub log: &'a str,
+}
+
+/// A study: what runs over the lines' sample sets in place of the relay, and tells in the log alone.
+#[derive(Clone, Copy)]
+pub enum Study {
+    /// Inverse-time overcurrent, with a pickup of 1 to 100000000 mA and a time multiplier setting of 25 to 1500
+    /// thousandths.
+    Backup {
+        curve: Curve,
+        pickup: u32,
+        tms: u32,
+    },
+    /// Distances to the fault of each trip.
+    Locate,
+    /// A breaker that fails to open, within 1 to 10000 ms, and one reclosing, after a dead time of 1 to 60000 ms, with a
+    /// reclaim time of 1 to 600000 ms.
+    Guard {
+        fail_ms: u32,
+        dead_ms: u32,
+        reclaim_ms: u32,
+    },
+}
+
 /// What the words ask for.
 #[derive(Clone, Copy)]
 pub enum Command<'a> {
@@ -29,10 +59,13 @@ pub enum Command<'a> {
     Check(&'a str),
     /// `drill` by this seed, of 1 to 600 seconds.
     Drill { seed: u64, seconds: u32 },
+    Study(Study, StudyFiles<'a>),
 }
 
-/// What the words ask for, if they are a form: `replay` with four files, `check` with one, or `drill` with a
-/// seed and 1 to 600 seconds, both in decimal digits. Each file word has at most 1024 bytes.
+/// What the words ask for, if they are a form: `replay` with four files, `check` with one, `drill` with a seed and
+/// 1 to 600 seconds, `backup` with three files, a curve, a pickup of 1 to 100000000 mA and a time multiplier
+/// setting of 25 to 1500 thousandths, `locate` with three files, or
+/// `guard` with three files and three times in milliseconds. Numbers are in decimal digits, and each file word has at most 1024 bytes.
 pub fn parse<'a>(words: &'a [String]) -> Option<Command<'a>>
     ensures value { option_map asked_of result ≡ form (map string_bytes words.now) }
     ensures range { ForSome result IsInRange }
@@ -48,6 +81,18 @@ pub fn parse<'a>(words: &'a [String]) -> Option<Command<'a>>
         } else {
             None
         },
+        [command, settings, capture, log] => {
+            let files = StudyFiles {
+                settings: settings.as_str(),
+                capture: capture.as_str(),
+                log: log.as_str(),
+            };
+            if command.as_str() == "locate" {
+                study_on(files, Some(Study::Locate))
+            } else {
+                None
+            }
+        }
         [command, settings, capture, goose, log] => {
             let files = Files {
                 settings: settings.as_str(),
@@ -57,6 +102,20 @@ pub fn parse<'a>(words: &'a [String]) -> Option<Command<'a>>
             };
             if command.as_str() == "replay" && are_short(&files) {
                 Some(Command::Replay(files))
+            } else {
+                None
+            }
+        }
+        [command, settings, capture, log, x, y, z] => {
+            let files = StudyFiles {
+                settings: settings.as_str(),
+                capture: capture.as_str(),
+                log: log.as_str(),
+            };
+            if command.as_str() == "backup" {
+                study_on(files, backup_of(x.as_str(), y.as_str(), z.as_str()))
+            } else if command.as_str() == "guard" {
+                study_on(files, guard_of(x.as_str(), y.as_str(), z.as_str()))
             } else {
                 None
             }
@@ -80,12 +139,77 @@ fn drill_of<'a>(seed: &str, seconds: &str) -> Option<Command<'a>>
     ensures range { ForSome result IsInRange }
 {
     let seed = number_of(seed)?;
-    let seconds = number_of(seconds)?;
-    if 1 <= seconds && seconds <= 600 {
-        Some(Command::Drill {
-            seed,
-            seconds: seconds as u32,
-        })
+    let seconds = number_within(seconds, 1, 600)?;
+    Some(Command::Drill { seed, seconds })
+}
+
+/// A study of these files, where there is one and their words are short.
+fn study_on<'a>(files: StudyFiles<'a>, study: Option<Study>) -> Option<Command<'a>>
+    requires { ForSome study IsStudy }
+    ensures value { option_map asked_of result ≡ studied (names_of_study files.entry) (option_map study_of study) }
+    ensures range { ForSome result IsInRange }
+{
+    let study = study?;
+    if are_short_study(&files) {
+        Some(Command::Study(study, files))
+    } else {
+        None
+    }
+}
+
+fn are_short_study(files: &StudyFiles<'_>) -> bool
+    ensures { result ≡ are_short_study_names (names_of_study files.now) }
+{
+    files.settings.len() <= LONGEST && files.capture.len() <= LONGEST && files.log.len() <= LONGEST
+}
+
+/// What `guard` asks for, where its words are times in their ranges.
+fn guard_of(fail: &str, dead: &str, reclaim: &str) -> Option<Study>
+    ensures value { option_map study_of result ≡ guard_asked (within 1 10000 (spelled fail.now)) (within 1 60000 (spelled dead.now)) (within 1 600000 (spelled reclaim.now)) }
+    ensures range { ForSome result IsStudy }
+{
+    let fail_ms = number_within(fail, 1, 10_000)?;
+    let dead_ms = number_within(dead, 1, 60_000)?;
+    let reclaim_ms = number_within(reclaim, 1, 600_000)?;
+    Some(Study::Guard {
+        fail_ms,
+        dead_ms,
+        reclaim_ms,
+    })
+}
+
+/// What `backup` asks for, where its words are a curve and numbers in their ranges.
+fn backup_of(curve: &str, pickup: &str, tms: &str) -> Option<Study>
+    ensures value { option_map study_of result ≡ backup_asked (curve_by curve.now) (within 1 100000000 (spelled pickup.now)) (within 25 1500 (spelled tms.now)) }
+    ensures range { ForSome result IsStudy }
+{
+    let curve = curve_named(curve)?;
+    let pickup = number_within(pickup, 1, 100_000_000)?;
+    let tms = number_within(tms, 25, 1500)?;
+    Some(Study::Backup { curve, pickup, tms })
+}
+
+/// The curve of this name.
+fn curve_named(word: &str) -> Option<Curve>
+    ensures { result ≡ curve_by word.now }
+{
+    if word == "very" {
+        Some(Curve::Very)
+    } else if word == "extremely" {
+        Some(Curve::Extremely)
+    } else {
+        None
+    }
+}
+
+/// The number that a word spells, where it is from `low` to `high`.
+fn number_within(word: &str, low: u32, high: u32) -> Option<u32>
+    ensures value { result ≡ within low high (spelled word.now) }
+    ensures range { ForSome result (λ n. (low ≤ n) × (n ≤ high)) }
+{
+    let number = number_of(word)?;
+    if u64::from(low) <= number && number <= u64::from(high) {
+        Some(number as u32)
     } else {
         None
     }

@@ -1,4 +1,3 @@
-pub mod Owners
 pub mod Frames
 pub mod Told
 pub mod KeptStation

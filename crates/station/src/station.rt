@@ -1,7 +1,5 @@
 //! A station.
-ghost use Rattle.std.specs.Prelude.{◌≤◌, ◌*◌};
-ghost use Rattle.std.specs.List.{All};
-ghost use Rattle.std.specs.Option.{ForSome};
+ghost use Rattle.line_bank.specs.Banks.{AreSmall};
 ghost use Rattle.line_relay.specs.KeptLine.{last_of};
 
 use crate::heard::Heard;
@@ -21,13 +19,13 @@ pub struct Station {
     frames: u64,
     heard: u64,
     // A sample set brings a line's number on by less than a second's samples.
-    ghost near: { All (λ line. ForSome (last_of line) (λ last. last ≤ 4800 * heard)) lines.items },
+    ghost near: { AreSmall last_of lines.items heard },
 }
 
 impl Station {
-    ghost use Rattle.std.specs.Prelude.{ℕ, ◌≡◌, ◌≢◌, ◌<◌, ◌≤◌, ◌^◌, ◌+◌, List, [], ◌∷◌, length, min, Some, None, Option, IfOk, IfSome, IfNone, slice_index_or, false};
+    ghost use Rattle.std.specs.Prelude.{ℕ, ◌≡◌, ◌≢◌, ◌<◌, ◌≤◌, ◌^◌, ◌+◌, List, [], ◌∷◌, length, min, Some, None, Option, IfOk, IfSome, IfNone, slice_index_or, true, false};
     ghost use Rattle.std.specs.List.{All};
-    ghost use Rattle.relay_settings.specs.Settings.{PlainSettings, plain_settings};
+    ghost use Rattle.relay_settings.specs.Settings.{PlainLine, PlainSettings, plain_settings};
     ghost use Rattle.relay_settings.specs.Ranges.{InRange};
     ghost use Rattle.sv_frame.specs.Asdu.{PlainAsdu, plain_asdu};
     ghost use Rattle.sv_frame.specs.Frame.{sv};
@@ -35,9 +33,9 @@ impl Station {
     ghost use Rattle.event_record.specs.Printable.{IsPrintable};
     ghost use Rattle.line_relay.specs.Bursts.{plain_burst};
     ghost use Rattle.line_relay.specs.declared.line.Line.{Line};
-    ghost use Rattle.station.specs.Owners.{owner, owns};
+    ghost use Rattle.line_bank.specs.Owners.{owner, owns};
     ghost use Rattle.station.specs.Frames.{heard_as, heard_view, most_heads};
-    ghost use Rattle.station.specs.KeptStation.{StandsFor, IsFirstOwner, IsTold, lines_of, frames_of, heard_of};
+    ghost use Rattle.station.specs.KeptStation.{StandsFor, IsTold, lines_of, frames_of, heard_of};
 
     /// The lines of these settings, which have heard nothing. `NoMemory` comes only where the allocator has no
     /// room for the lines, or for a line's cycle of samples and of voltages; nothing is made then.
@@ -116,7 +114,7 @@ impl Station {
         requires few { heard_of self.old < 2 ^ 40 }
         // By the sample sets before: for each list of them that the station stands for.
         ensures told { (settings : PlainSettings) (past : List PlainAsdu) → StandsFor settings past self.old →
-            IfSome result (λ told. IsTold settings past (plain_asdu a.now) told.0 (plain_burst told.1)) }
+            IfSome result (λ told. IsTold settings (plain_asdu a.now ∷ past) told.0 (plain_burst told.1)) }
         ensures none { (settings : PlainSettings) (past : List PlainAsdu) → StandsFor settings past self.old →
             IfNone result (owner (plain_asdu a.now) settings.lines ≡ None) }
         ensures after { (settings : PlainSettings) (past : List PlainAsdu) → StandsFor settings past self.old →
@@ -145,7 +143,7 @@ impl Station {
         requires few { heard_of self.old < 2 ^ 40 }
         // By the sample sets before: for each list of them that the station stands for.
         ensures told { (settings : PlainSettings) (past : List PlainAsdu) → StandsFor settings past self.old →
-            IfSome result (λ place. IsTold settings past (plain_asdu a.now) place (plain_burst burst.new)) }
+            IfSome result (λ place. IsTold settings (plain_asdu a.now ∷ past) place (plain_burst burst.new)) }
         ensures none { (settings : PlainSettings) (past : List PlainAsdu) → StandsFor settings past self.old →
             IfNone result (owner (plain_asdu a.now) settings.lines ≡ None) }
         ensures after { (settings : PlainSettings) (past : List PlainAsdu) → StandsFor settings past self.old →
@@ -170,7 +168,7 @@ impl Station {
     fn place_of(&self, a: &Asdu<'_>) -> Option<usize>
         ensures within { IfSome result (λ place. place < length (lines_of self.now)) }
         ensures mine { (settings : PlainSettings) (past : List PlainAsdu) → StandsFor settings past self.now →
-            IfSome result (λ place. IsFirstOwner (plain_asdu a.now) settings.lines place) }
+            IfSome result (λ place. (d : PlainLine) → owns (slice_index_or settings.lines place d) (plain_asdu a.now) ≡ true) }
         ensures none { (settings : PlainSettings) (past : List PlainAsdu) → StandsFor settings past self.now →
             IfNone result (All (λ line. owns line (plain_asdu a.now) ≡ false) settings.lines) }
     {

@@ -5,5 +5,5 @@ pub returns-clause-same : goal.returns-clause-same
 returns-clause-same g c tells past stands = record {
   settings = stands.settings;
   is = stands.is;
-  stands = stands-lines stands.settings past _ _ c.frame_into.ensures.same_lines stands.stands;
+  stands = stands-lines stands.settings past c.args.self.now.station c.frame_into.new.self c.frame_into.ensures.same_lines stands.stands;
 }

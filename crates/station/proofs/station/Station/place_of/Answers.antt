@@ -4,11 +4,9 @@ use Rattle.station.proofs.StationLemmas.{owns-is, none-next}
 use Rattle.station.proofs.station.Station.place_of.Goals as goal
 
 pub returns-then-owns-clause-mine : goal.returns-then-owns-clause-mine
-returns-then-owns-clause-mine c settings past stands = record {
-  mine = λ d. owns-is settings past c.args.self.now (plain_asdu c.args.a.now) c.loop-place.place d c.line-item.result c.owns.result stands (omega (arith, c.loop-place-test.true, c.deref-line-items.ensures.len))
-      (c.line-item.is ∙ ap (λ ls. get_or ls c.loop-place.place c.line-item.result) c.deref-line-items.ensures.value) c.owns.ensures ∙ c.if-owns.true;
-  before = c.loop-place.invariant settings past stands;
-}
+returns-then-owns-clause-mine c settings past stands = λ d.
+    owns-is settings past c.args.self.now (plain_asdu c.args.a.now) c.loop-place.place d c.line-item.result c.owns.result stands (omega (arith, c.loop-place-test.true, c.deref-line-items.ensures.len))
+    (c.line-item.is ∙ ap (λ ls. get_or ls c.loop-place.place c.line-item.result) c.deref-line-items.ensures.value) c.owns.ensures ∙ c.if-owns.true
 
 pub loop-place-preserved : goal.loop-place-preserved
 loop-place-preserved c settings past stands =

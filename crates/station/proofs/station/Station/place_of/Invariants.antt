@@ -1,7 +1,7 @@
 use Rattle.std.proofs.Common.{ℕ, ◌≡◌, ◌<◌, List, false, slice_index_or}
 use Rattle.relay_settings.specs.Settings.{PlainSettings, PlainLine}
 use Rattle.sv_frame.specs.Asdu.{PlainAsdu, plain_asdu}
-use Rattle.station.specs.Owners.{owns}
+use Rattle.line_bank.specs.Owners.{owns}
 use Rattle.station.specs.KeptStation.{StandsFor}
 use Rattle.station.proofs.station.Station.place_of.Given as goal
 
