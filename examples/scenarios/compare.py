@@ -5,7 +5,8 @@
 
 Each case is a few lines of a network with random zones and tables, faults, swings, lost voltages and breaker openings, gaps,
 bad quality, repeated, swapped and broken frames, in either version of the settings, as pcap or pcapng. Both programs
-replay it; where log, GOOSE file or note differ, the case is kept in the folder KEEP (here by default) and the status is 1.
+replay it, and run studies over it; where logs, GOOSE file or note differ, the case is kept in the folder KEEP (here by
+default) and the status is 1.
 Equal seeds make equal cases. With COUNT 0 and a seed such as 7/3 the one case 3 of seed 7 is made and compared.
 """
 import os
@@ -21,6 +22,7 @@ from make import (GRID_110, GRID_220, GRID_400, line, mho, pcap, quad, ramp, rot
 
 sys.path.insert(0, os.path.dirname(make.HERE))
 import plain_replay
+import plain_studies
 import sampled_values as sv
 
 RELAY = os.path.join(os.path.dirname(os.path.dirname(make.HERE)), "crates/relay_main/out/relay_main")
@@ -164,6 +166,28 @@ def case(seed):
     return text, capture[:-rng.randint(1, 90)] if rng.random() < 0.1 else capture
 
 
+def studies(rng):
+    """The words of some studies behind the log's name."""
+    curve, pickup, tms = rng.choice(("very", "extremely")), rng.choice((1, 50_000, 200_000, 800_000)), rng.choice((25, 60, 1500))
+    times = rng.choice((1, 20, 60)), rng.choice((1, 10, 40)), rng.choice((1, 50, 300))
+    return [("backup", curve, str(pickup), str(tms)), ("locate",), ("guard", *map(str, times))]
+
+
+def studied(seed, folder):
+    """The studies by whose logs or notes the two programs differ."""
+    settings_path, capture_path, log = (f"{folder}/{name}" for name in ("settings.toml", "capture.pcap", "study.log"))
+    with open(capture_path, "rb") as file:
+        stop = sv.records(file.read())[1] or ""
+    wrong = []
+    for kind, *words in studies(random.Random(f"{seed}/studies")):
+        done = subprocess.run([RELAY, kind, settings_path, capture_path, log, *words], capture_output=True, text=True)
+        with open(log, encoding="ascii") as file:
+            ours = file.read()
+        if (done.stderr.strip(), ours) != (stop, plain_studies.run(kind, settings_path, capture_path, *words)):
+            wrong.append(" ".join((kind, *words)))
+    return wrong
+
+
 def compare(seed, folder):
     """None where both programs agree, else what differs."""
     text, capture = case(seed)
@@ -185,6 +209,7 @@ def compare(seed, folder):
     written = {name: open(path, "rb").read() if os.path.exists(path) else b"" for name, path in paths.items()}
     wrong = [what for what, ours, theirs in (("note", note, stop), ("log", written["events.log"], log.encode("ascii")),
                                              ("GOOSE file", written["goose.pcap"], goose)) if ours != theirs]
+    wrong += studied(seed, folder)
     return ", ".join(wrong) or None
 
 
