@@ -5,6 +5,7 @@
     speed.py --quick          without the times
     speed.py --parts          instead, what the parts of a healthy and of the dearest sample set cost
     speed.py --sizes          instead, the calls of memset, memcpy and memmove above 1024 bytes, by record
+    speed.py .. --program P   of the program P, in place of the one that stands in crates/relay_main/out
 
 For each row it makes captures of two lengths, runs the program over both under callgrind, and divides the difference of
 the instructions by that of the sample sets, so that what a run costs once doesn't count. It replays a longer capture beside
@@ -348,13 +349,17 @@ def print_sizes(kind, sets, found):
 
 
 if __name__ == "__main__":
+    asked = sys.argv[1:]
+    if asked[-2:-1] == ["--program"]:
+        RELAY = os.path.abspath(asked[-1])
+        del asked[-2:]
     if not os.access(RELAY, os.X_OK):
         sys.exit(f"speed.py: {RELAY} isn't built; ./demo builds it")
-    if sys.argv[1:] not in ([], ["--quick"], ["--parts"], ["--sizes"]):
+    if asked not in ([], ["--quick"], ["--parts"], ["--sizes"]):
         sys.exit(__doc__)
-    if sys.argv[1:] == ["--parts"]:
+    if asked == ["--parts"]:
         parts()
-    elif sys.argv[1:] == ["--sizes"]:
+    elif asked == ["--sizes"]:
         sizes()
     else:
-        table(sys.argv[1:] == ["--quick"])
+        table(asked == ["--quick"])

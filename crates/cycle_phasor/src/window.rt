@@ -13,6 +13,7 @@ use std::sync::ledger::Ledger;
 /// Takes the values at this number into the window and its sums. The window's run would go on with the number
 /// `next`: another number begins a new run, and no values end the run. The window holds the newest values of the
 /// run, at most a cycle of them, each below 2^28 in size. It is looked at once at most, for the values that leave.
+#[inline(always)]
 pub fn take_values<L: Ledger>(
     ring: &mut History<[i64; 8]>,
     slider: &mut Slider,

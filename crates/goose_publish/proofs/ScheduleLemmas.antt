@@ -1,17 +1,19 @@
 -- What a publisher holds after one more take.
-use Rattle.std.proofs.Common.{◌≡◌, ℕ, suc, ◌-◌, ◌*◌, ◌<◌, ◌≤◌, leb, true, false, sym, ap, ◌∙◌, arith, le_refl, inl, inr, List, [], ◌∷◌}
-use Rattle.std.specs.Prelude.{Some, if◌then◌else◌}
-use Rattle.std.proofs.lemmas.Bool.{cases_Bool, cond-true, cond-false, false≢true}
+use Rattle.std.proofs.Common.{◌≡◌, refl, ℕ, suc, ◌-◌, ◌*◌, ◌<◌, ◌≤◌, leb, true, false, sym, ap, ◌∙◌, arith, le_refl, inl, inr, List, [], ◌∷◌}
+use Rattle.std.specs.Prelude.{Some, if◌then◌else◌, Bool, ◌==◌, ◌&&◌}
+use Rattle.std.specs.Bool.{beq}
+use Rattle.std.proofs.lemmas.Bool.{cases_Bool, cond-true, cond-false, false≢true, and_parts, eqb-true, not-false}
 use Rattle.sample_windows.specs.Numbered.{Rises}
 use Rattle.sample_windows.specs.Windows.{newest_where}
 use Rattle.relay_settings.specs.declared.types.Common.{Common}
 use Rattle.goose_publish.specs.declared.pace.Pace.{Pace}
+use Rattle.goose_publish.specs.declared.points.Points.{Points}
 use Rattle.goose_publish.specs.declared.schedule.Schedule.{Schedule}
 use Rattle.relay_settings.specs.Samples.{samples}
 use Rattle.goose_publish.specs.Offsets.{offset_ms}
 use Rattle.goose_publish.specs.Paces.{IsAt, Passed}
-use Rattle.goose_publish.specs.Publishing.{PointsTake, RisesTo, number_now, changes_now, change_number, is_due, last_offset, live_ms, next_count, state, sequence}
-use Rattle.goose_publish.specs.Schedules.{HasTaken}
+use Rattle.goose_publish.specs.Publishing.{PointsTake, RisesTo, number_now, same_points, changes_now, change_number, is_due, last_offset, live_ms, next_count, state, sequence}
+use Rattle.goose_publish.specs.Schedules.{HasTaken, points_now}
 use Rattle.goose_publish.proofs.OffsetLemmas.{samples_ge, due_is, last_is}
 
 module _ (common : Common) (k : ℕ) (pace : Pace) (at : IsAt common k pace) where
@@ -40,6 +42,37 @@ change_le (t ∷ u ∷ older) r = elim (cases_Bool (changes_now (t ∷ u ∷ old
   | inl e ↦ rw e (le_refl t.number)
   | inr e ↦ rw e (omega (arith, change_le (u ∷ older) r.1, r.0))
 ]
+
+same_bool : (a b : Bool) → beq a b ≡ true → a ≡ b
+same_bool true true e = refl
+same_bool true false e = absurd (false≢true e)
+same_bool false true e = absurd (false≢true e)
+same_bool false false e = refl
+
+abbrev made : Bool → Bool → Bool → Bool → ℕ → Bool → Points
+made trip start swing fuse zones ready =
+    record { trip = trip; start = start; swing = swing; fuse = fuse; zones = zones; ready = ready }
+
+same_made : (a a' b b' c c' d d' : Bool) (z z' : ℕ) (r r' : Bool) →
+    a ≡ a' → b ≡ b' → c ≡ c' → d ≡ d' → z ≡ z' → r ≡ r' → made a b c d z r ≡ made a' b' c' d' z' r'
+same_made a a' b b' c c' d d' z z' r r' ea eb ec ed ez er = rw (ea, eb, ec, ed, ez, er) refl
+
+-- points that are told the same are the same
+same_is : (p q : Points) → same_points p q ≡ true → p ≡ q
+same_is p q e =
+    let trip = and_parts (beq p.trip q.trip) _ e in
+    let start = and_parts (beq p.start q.start) _ trip.1 in
+    let swing = and_parts (beq p.swing q.swing) _ start.1 in
+    let fuse = and_parts (beq p.fuse q.fuse) _ swing.1 in
+    let zones = and_parts (p.zones == q.zones) _ fuse.1 in
+    same_made p.trip q.trip p.start q.start p.swing q.swing p.fuse q.fuse p.zones q.zones p.ready q.ready
+    (same_bool _ _ trip.0) (same_bool _ _ start.0) (same_bool _ _ swing.0) (same_bool _ _ fuse.0)
+    (eqb-true _ _ zones.0) (same_bool _ _ zones.1)
+
+-- where a take changes nothing, its points are those of the take before
+unchanged : (t : PointsTake) (takes : List PointsTake) → changes_now (t ∷ takes) ≡ false → points_now takes ≡ Some t.points
+unchanged t [] e = absurd (false≢true (sym e))
+unchanged t (u ∷ older) e = ap Some (sym (same_is t.points u.points (not-false _ e)))
 
 module _ (common : Common) (takes : List PointsTake) (old : Schedule) (stands : HasTaken common takes old) where
   -- the greatest offset that doesn't fall above the newest number is the last that was passed
@@ -97,13 +130,13 @@ module _ (common : Common) (takes : List PointsTake) (old : Schedule) (stands : 
           (change_le takes stands.rises) goes_on stands.pace.passed stands.pace.ahead)
 
       pub same_next : (next : Schedule) →
-          next.last ≡ Some t.points → next.change ≡ old.change → next.state ≡ old.state →
+          next.last ≡ old.last → next.change ≡ old.change → next.state ≡ old.state →
           next.sequence ≡ (if is_due common (t ∷ takes) then next_count old.sequence else old.sequence) →
           Passed common age next.pace → HasTaken common (t ∷ takes) next
       unfolding state sequence
       same_next next last change count counted passed = record {
         rises = rises;
-        last = last;
+        last = last ∙ stands.last ∙ unchanged t takes same;
         change = change ∙ stands.change ∙ sym older_change;
         state = count ∙ stands.state ∙ sym (cond-false _ _ _ same);
         sequence =

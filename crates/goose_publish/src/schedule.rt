@@ -94,9 +94,8 @@ impl Schedule {
             HasTaken common (take_of number points.now ∷ takes) self.new }
         ensures change { IsTrue result → self.new.change ≤ number }
     {
-        let changes = self.changes(points);
-        self.last = Some(*points);
-        if changes {
+        if self.changes(points) {
+            self.last = Some(*points);
             self.pace.restart();
             self.change = number;
             self.state = next_of(self.state);

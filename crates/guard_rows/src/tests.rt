@@ -161,12 +161,15 @@ const TWO_FAULTS: [Span; 5] = [
     (1464, 3864, true),
     (3864, 5000, false),
     (5000, 5300, true),
-    (5300, 6300, false),
+    (5300, 6600, false),
 ];
+
+/// A fault that stands to the end, so that its trip has no reset.
+const STANDING: [Span; 2] = [(0, 1464, false), (1464, 3000, true)];
 
 #[test]
 fn faults_give_their_lines(rt: HostRuntime) -> Result<(), Fail> {
-    let rows: [Row; 6] = [
+    let rows: [Row; 8] = [
         (
             150,
             300,
@@ -217,6 +220,15 @@ L1 2024-01-01T00:00:01.054583333Z 5062 guard final
 L1 2024-01-01T00:00:01.260416666Z 6050 guard reclose
 ",
         ),
+        (
+            600,
+            150,
+            1000,
+            &TWO_FAULTS,
+            "L1 2024-01-01T00:00:01.360416666Z 6530 guard reclose
+",
+        ),
+        (600, 50, 1000, &STANDING, ""),
     ];
     for row in &rows {
         assert!(rt; row.0 >= 1 && row.0 <= 10_000 && row.1 >= 1 && row.1 <= 60_000);
@@ -224,5 +236,95 @@ L1 2024-01-01T00:00:01.260416666Z 6050 guard reclose
         let log = log_of::<Brand>(rt.alloc(), row, Blank::new(1))?;
         assert_eq!(rt; log.as_slice(), row.4.as_bytes());
     }
+    Ok(())
+}
+
+/// Sixteen lines in the order of the settings: the name and the svID of each.
+const LINES: [(&str, &str); 16] = [
+    ("L01", "MU01"),
+    ("L02", "MU02"),
+    ("L03", "MU03"),
+    ("L04", "MU04"),
+    ("L05", "MU05"),
+    ("L06", "MU06"),
+    ("L07", "MU07"),
+    ("L08", "MU08"),
+    ("L09", "MU09"),
+    ("L10", "MU10"),
+    ("L11", "MU11"),
+    ("L12", "MU12"),
+    ("L13", "MU13"),
+    ("L14", "MU14"),
+    ("L15", "MU15"),
+    ("L16", "MU16"),
+];
+
+/// The settings of these lines, each with a control block reference of its own.
+fn sixteen_of(alloc: Global) -> Result<String, AllocError> {
+    let (top, line) = SETTINGS.split_once("[[line]]").unwrap_or(("", ""));
+    let mut text = top.to_string(alloc)?;
+    for (name, sv_id) in &LINES {
+        let named = line.replacen(alloc, "L1", name, 1)?;
+        let owning = named.replacen(alloc, "MU01", sv_id, 1)?;
+        let sending = owning.replacen(alloc, "$G1", sv_id, 1)?;
+        text.push_str("[[line]]")?;
+        text.push_str(&sending)?;
+    }
+    Ok(text)
+}
+
+/// The lines' sample sets in turn. The fault of the first line is there from 200 on to before 340, that of the second from
+/// 200 on to before 400, and so on, so that the last ones stand longer than the failure time.
+fn sixteen_logs<L: Ledger>(alloc: Global, blank: Blank) -> Result<Vec<u8>, Fail>
+    requires name { blank.name ≡ L.name }
+    requires parts { blank.parts ≡ L.parts }
+    requires shares { 0 < blank.parts }
+{
+    let text = sixteen_of(alloc)?;
+    let settings = read_settings(alloc, text.as_bytes())?;
+    let mut steps = open_steps::<L>(blank);
+    let mut guards = Guards::new(alloc, &settings, 150, 20, 1000)?;
+    let mut log = Vec::new(alloc);
+    for number in 0..1500_u32 {
+        let mut end: u32 = 280;
+        for (name, sv_id) in &LINES {
+            end = end.wrapping_add(60);
+            let data = data_of(alloc, number, number >= 200 && number < end)?;
+            hear_one(
+                &mut guards,
+                &mut steps,
+                (sv_id.as_bytes(), name.as_bytes()),
+                number as u16,
+                &data,
+                &mut log,
+            )?;
+        }
+    }
+    Ok(log)
+}
+
+/// A line whose fault goes early recloses, the earlier the sooner; the others fail, all at one number.
+const SIXTEEN_LOGS: &str = "L01 2024-01-01T00:00:00.196458333Z 943 guard reclose
+L11 2024-01-01T00:00:00.204583333Z 982 guard fail
+L12 2024-01-01T00:00:00.204583333Z 982 guard fail
+L13 2024-01-01T00:00:00.204583333Z 982 guard fail
+L14 2024-01-01T00:00:00.204583333Z 982 guard fail
+L15 2024-01-01T00:00:00.204583333Z 982 guard fail
+L16 2024-01-01T00:00:00.204583333Z 982 guard fail
+L02 2024-01-01T00:00:00.208958333Z 1003 guard reclose
+L03 2024-01-01T00:00:00.222916666Z 1070 guard reclose
+L04 2024-01-01T00:00:00.235000000Z 1128 guard reclose
+L05 2024-01-01T00:00:00.246458333Z 1183 guard reclose
+L06 2024-01-01T00:00:00.258958333Z 1243 guard reclose
+L07 2024-01-01T00:00:00.272916666Z 1310 guard reclose
+L08 2024-01-01T00:00:00.285000000Z 1368 guard reclose
+L09 2024-01-01T00:00:00.296458333Z 1423 guard reclose
+L10 2024-01-01T00:00:00.308958333Z 1483 guard reclose
+";
+
+#[test]
+fn sixteen_lines_have_guards_of_their_own(rt: HostRuntime) -> Result<(), Fail> {
+    let log = sixteen_logs::<Brand>(rt.alloc(), Blank::new(1))?;
+    assert_eq!(rt; log.as_slice(), SIXTEEN_LOGS.as_bytes());
     Ok(())
 }

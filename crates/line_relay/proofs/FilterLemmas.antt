@@ -1,5 +1,5 @@
 -- Filtered values are small.
-use Rattle.std.proofs.Common.{◌*ℤ◌, ◌-ℤ◌, ◌≡◌, ◌<◌, ◌≤◌, ◌^◌, arith, List, ℤ, pos, neg_ℤ, length, get_or, unsigned_abs}
+use Rattle.std.proofs.Common.{◌*ℤ◌, ◌-ℤ◌, ◌≡◌, ◌<◌, ◌≤◌, ◌^◌, arith, List, ℤ, pos, neg_ℤ, length, get_or, unsigned_abs, refl, [], ◌∷◌, None}
 use Rattle.std.specs.Int.{int_min, int_max}
 use Rattle.std.proofs.lemmas.Int.{int_min_is, int_max_is}
 use Rattle.std.proofs.lemmas.Simd.{get_or-zip2, length-zip2}
@@ -7,6 +7,8 @@ use Rattle.relay_num.proofs.Signed.{signed, one_part}
 use Rattle.relay_num.specs.Numbers.{floor_div}
 use Rattle.relay_settings.specs.Ranges.{IsWhole}
 use Rattle.relay_num.specs.Bounds.{AllBelow}
+use Rattle.line_relay.specs.Samples.{Numbered}
+use Rattle.line_relay.specs.Windows.{kept_now}
 use Rattle.mimic_filter.specs.Mimic.{filtered, filtered_lanes}
 
 limited_below : (z : ℤ) → unsigned_abs (int_max (int_min z (pos 268435455)) (neg_ℤ (pos 268435455))) < 2 ^ 28
@@ -21,3 +23,8 @@ filtered_small a b now before h j k d lt =
 
 pub factor_fits : (z : ℤ) → IsWhole (pos 0) (pos 65536) z → unsigned_abs z ≤ 65536
 factor_fits z h = omega (arith, signed, one_part z, h.0, h.1)
+
+-- without a filter nothing is kept
+pub kept_without : (samples : List Numbered) → kept_now None samples ≡ None
+kept_without [] = refl
+kept_without (s ∷ older) = refl

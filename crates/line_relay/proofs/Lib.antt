@@ -5,6 +5,7 @@ pub mod LawLemmas
 pub mod FarBelowLemmas
 pub mod EventLemmas
 pub mod LoopLemmas
+pub mod PartLemmas
 pub mod InsideLemmas
 pub mod NextLemmas
 pub mod FactLemmas

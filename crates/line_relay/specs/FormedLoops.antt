@@ -1,18 +1,21 @@
 -- The loops as they are formed of what is measured, where some loop has the least current.
-use Rattle.std.specs.Prelude.{ℕ, zero, suc, ◌≡◌, Bool, not, ◌&&◌, if◌then◌else◌, List, Option, Some, None}
+use Rattle.std.specs.Prelude.{ℕ, zero, suc, ◌≡◌, Bool, not, ◌&&◌, if◌then◌else◌, List, [], ◌∷◌, Option, Some, None}
 use Rattle.std.specs.Option.{option_map}
 use Rattle.relay_num.specs.declared.Cx.{Cx}
 use Rattle.relay_num.specs.Numbers.{is_at_least}
 use Rattle.relay_settings.specs.declared.types.Dir.{Dir}
 use Rattle.relay_settings.specs.declared.types.Dir.TheVariants.{Forward, Reverse, Unasked}
+use Rattle.relay_settings.specs.declared.types.Shape.{Shape}
+use Rattle.relay_settings.specs.declared.types.ZonePart.{ZonePart}
 use Rattle.relay_settings.specs.declared.types.ZoneSettings.{ZoneSettings}
 use Rattle.relay_settings.specs.Settings.{PlainLine}
 use Rattle.loop_impedance.specs.Loops.{item, voltages_of, currents_of, polarising_of}
-use Rattle.loop_impedance.specs.Masks.{loop_mask, has_bit}
+use Rattle.loop_impedance.specs.Masks.{mask, loop_mask, has_bit}
 use Rattle.direction.specs.Torques.{sense_by_negative, direction_of}
 use Rattle.direction.specs.declared.Sense.{Sense}
 use Rattle.direction.specs.declared.Sense.TheVariants.{Neither}
 use Rattle.zone_shape.specs.declared.formed.FormedLoop.{FormedLoop}
+use Rattle.zone_shape.specs.Shapes.{has_shape}
 use Rattle.line_relay.specs.declared.measured.Measured.{Measured}
 use Rattle.line_relay.specs.declared.loops.Loops.{Loops}
 use Rattle.line_relay.specs.declared.loops.Sides.{Sides}
@@ -93,6 +96,25 @@ abbrev pub candidates_of : Dir → Sides → ℕ
 candidates_of Forward sides = sides.ahead
 candidates_of Reverse sides = sides.behind
 candidates_of Unasked sides = sides.with_current
+
+-- whether a loop, one of the candidates, is within a shape
+abbrev pub shape_holds : Shape → ℕ → Bool → ℕ → FormedLoop → Bool
+shape_holds shape candidates reversed place formed =
+    has_bit place candidates && has_shape shape reversed formed.u formed.i formed.pol
+
+-- the mask of those of three loops that are
+abbrev pub shape_mask : Shape → ℕ → Bool → FormedLoop → FormedLoop → FormedLoop → ℕ
+shape_mask shape candidates reversed a b c =
+    mask (
+    shape_holds shape candidates reversed 0 a
+    ∷ shape_holds shape candidates reversed 1 b
+    ∷ shape_holds shape candidates reversed 2 c
+    ∷ [])
+
+-- without the part there is none
+abbrev pub part_mask : Option ZonePart → ℕ → Bool → FormedLoop → FormedLoop → FormedLoop → ℕ
+part_mask None candidates reversed a b c = 0
+part_mask (Some part) candidates reversed a b c = shape_mask part.shape candidates reversed a b c
 
 -- whether a zone holds a loop of those that it may hold
 unfoldable pub holds_formed : ZoneSettings → FormedLoop → Sides → Bool → ℕ → Bool

@@ -9,6 +9,7 @@ ghost use Rattle.line_relay.specs.Measured.{measured};
 ghost use Rattle.line_relay.specs.Inside.{holds_of};
 ghost use Rattle.line_relay.specs.Points.{has_some};
 ghost use Rattle.line_relay.specs.Decided.{trips_by, dead_by};
+ghost use Rattle.line_relay.specs.FarBelow.{greatest_by};
 
 use crate::measured::measure;
 use crate::quiet::is_far_below;
@@ -37,21 +38,22 @@ fn trips_in(zones: &[ZoneSettings], place: usize, mask: u8) -> bool
     }
 }
 
-/// Whether the sample is ready and none of its phase currents is as large as `open_i`.
-pub fn is_dead(settings: &LineSettings, n: u32, phasors: &Option<[Cx; 8]>) -> bool
+/// Whether the sample is ready and none of its phase currents is as large as `open_i`. `greatest` is the greatest part of
+/// these currents.
+pub fn is_dead(settings: &LineSettings, n: u32, phasors: &Option<[Cx; 8]>, greatest: u64) -> bool
     requires settings { IsLine settings.now }
     requires n { (n ≡ 80) ⊎ (n ≡ 96) }
     requires phasors { ForSome phasors.now (All (λ p. IsBelow p (2 ^ 30 + 1))) }
+    requires greatest { greatest ≡ greatest_by (option_map measured phasors.now) }
     ensures { result ≡ dead_by n (plain_line settings.now) (option_map measured phasors.now) }
 {
     let Some(phasors) = phasors else {
         return false;
     };
-    let m = measure(phasors);
-    if is_far_below(&m.currents, n, settings.open_i) {
+    if is_far_below(greatest, n, settings.open_i) {
         return true;
     }
-    let [a, b, c] = m.currents;
+    let [a, b, c] = measure(phasors).currents;
     !at_least_rms(a, n, settings.open_i)
         && !at_least_rms(b, n, settings.open_i)
         && !at_least_rms(c, n, settings.open_i)

@@ -64,8 +64,31 @@ pub fn push_arrival(
     tell(events, common, last, what);
 }
 
+/// Tells each fact that isn't as it was told last, and keeps what is told now. Mostly no fact has changed, and nothing is
+/// written.
+#[inline(always)]
+pub fn note_changes(
+    events: &mut ArrayVec<Event, 96>,
+    common: &Common,
+    last: Option<u64>,
+    shown: &mut Shown,
+    now: &Shown,
+    trip: &TripState,
+)
+    requires rate { 1 < common.now.rate }
+    requires room { array_vec_len events.old + 64 ≤ 96 }
+    ensures events { events.new.items ≡ events.old.items ++ told (option_map (time_of common.now) last) (shown_changes shown.old now.now trip.now) }
+    ensures shown { shown.new ≡ now.now }
+{
+    if is_as_before(shown, now, trip) {
+        return;
+    }
+    push_changes(events, common, last, shown, now, trip);
+    *shown = *now;
+}
+
 /// Tells each fact that isn't as it was.
-pub fn push_changes(
+fn push_changes(
     events: &mut ArrayVec<Event, 96>,
     common: &Common,
     last: Option<u64>,
@@ -77,9 +100,6 @@ pub fn push_changes(
     requires room { array_vec_len events.old + 64 ≤ 96 }
     ensures { events.new.items ≡ events.old.items ++ told (option_map (time_of common.now) last) (shown_changes before.now now.now trip.now) }
 {
-    if is_as_before(before, now, trip) {
-        return;
-    }
     push_edge(
         events,
         common,

@@ -1,5 +1,5 @@
 //! The filtered values of a sample, and what the mimic filter needs at the next.
-ghost use Rattle.std.specs.Prelude.{◌≡◌, ◌^◌};
+ghost use Rattle.std.specs.Prelude.{◌≡◌, ◌^◌, None};
 ghost use Rattle.std.specs.Option.{ForSome};
 ghost use Rattle.relay_num.specs.Bounds.{AllBelow};
 ghost use Rattle.cycle_phasor.specs.Sliding.{values_left};
@@ -38,15 +38,20 @@ pub fn filtered(
     Some(mimic8(mimic.a, mimic.b, &sample.values, &before))
 }
 
-/// The values of a sample that the filter needs at the next number.
-pub fn kept(mimic: Option<Mimic>, sample: &Sample) -> Option<[i64; 8]>
-    requires { AllBelow sample.now.values (2 ^ 28) }
-    ensures kept { result ≡ kept_values mimic sample.now }
-    ensures small { AllBelow (values_left result) (2 ^ 28) }
+/// Keeps the values of a sample that the filter needs at the next number. Without a filter none are kept, and nothing
+/// is written.
+pub fn keep(before: &mut Option<[i64; 8]>, mimic: Option<Mimic>, sample: &Sample)
+    requires before { AllBelow (values_left before.old) (2 ^ 28) }
+    requires sample { AllBelow sample.now.values (2 ^ 28) }
+    ensures kept { (mimic ≡ None → before.old ≡ None) → before.new ≡ kept_values mimic sample.now }
+    ensures small { AllBelow (values_left before.new) (2 ^ 28) }
 {
-    if mimic.is_some() && sample.good {
+    if mimic.is_none() {
+        return;
+    }
+    *before = if sample.good {
         Some(sample.values)
     } else {
         None
-    }
+    };
 }

@@ -7,7 +7,7 @@ ghost use Rattle.cycle_phasor.specs.Window.{IsSliding};
 ghost use Rattle.relay_settings.specs.Ranges.{IsMimic};
 ghost use Rattle.line_relay.specs.Windows.{next_after};
 
-use crate::filter::{filtered, kept};
+use crate::filter::{filtered, keep};
 use cycle_phasor::{Slider, take_values};
 use relay_num::{Cx, NoMemory, Steps};
 use relay_settings::{Common, LineSettings, Mimic};
@@ -127,6 +127,7 @@ impl Front {
     /// Takes the next sample set of the line, after all that came before, or says why it doesn't. The last
     /// number has to be below 2^60. The phasors are those of the last whole cycle of taken and good
     /// samples, formed anew. It takes no memory, and looks at the window at most once.
+    #[inline(always)]
     pub fn take<L: Ledger>(&mut self, a: &Asdu<'_>, steps: &mut Steps<L>) -> Step
         requires { ForSome self.old.numberer.last (λ last. last < 2 ^ 60) }
         ensures grows { (most : ℕ) → ForSome self.old.numberer.last (λ last. last ≤ most) → ForSome self.new.numberer.last (λ last. last ≤ most + 4800) }
@@ -157,7 +158,7 @@ impl Front {
         };
         let sample = sample_of(&channels, self.quality_mask, a.synch, self.synch_min);
         let values = filtered(self.mimic, self.before, number == next, &sample);
-        self.before = kept(self.mimic, &sample);
+        keep(&mut self.before, self.mimic, &sample);
         take_values(
             &mut self.ring,
             &mut self.slider,

@@ -1,34 +1,37 @@
 //! Which loops are inside which zone at a ready sample: up to thirty tests, the cheap ones first.
-ghost use Rattle.std.specs.Prelude.{ℕ, ◌≡◌, ◌≤◌, ◌<◌, ◌+◌, ◌⊎◌, ◌^◌};
+ghost use Rattle.std.specs.Prelude.{ℕ, ◌≡◌, ◌≤◌, ◌<◌, ◌+◌, ◌⊎◌, ◌^◌, false, Some, [], ◌∷◌};
 ghost use Rattle.std.specs.List.{All};
-ghost use Rattle.std.specs.Option.{ForSome};
+ghost use Rattle.std.specs.Option.{ForSome, option_map};
+ghost use Rattle.relay_num.specs.Bounds.{reach_bound};
 ghost use Rattle.relay_num.specs.Numbers.{IsBelow};
-ghost use Rattle.relay_settings.specs.Ranges.{IsLine, IsZone};
+ghost use Rattle.relay_settings.specs.declared.types.Shape.TheVariants.{Mho, Quad};
+ghost use Rattle.relay_settings.specs.Ranges.{IsLine, IsZone, IsZonePart, IsQuad};
 ghost use Rattle.relay_settings.specs.Settings.{plain_line};
-ghost use Rattle.loop_impedance.specs.Masks.{loop_mask};
+ghost use Rattle.loop_impedance.specs.Masks.{mask, loop_mask};
 ghost use Rattle.zone_timers.specs.Masks.{zone_masks};
-ghost use Rattle.line_relay.specs.Sizes.{IsMeasured};
-ghost use Rattle.line_relay.specs.Inside.{has_current, holds_of};
-ghost use Rattle.std.specs.Option.{option_map};
+ghost use Rattle.line_relay.specs.Inside.{holds_of};
 ghost use Rattle.line_relay.specs.Decided.{inside_masks_by};
 ghost use Rattle.line_relay.specs.Measured.{measured};
-ghost use Rattle.line_relay.specs.FormedLoops.{candidates_of, holds_formed, is_held};
+ghost use Rattle.line_relay.specs.FarBelow.{greatest_by};
+ghost use Rattle.line_relay.specs.FormedLoops.{candidates_of, is_held, shape_mask, part_mask};
 
-use crate::loops::{Loops, Sides, form_loops, form_sides, has_bit, mask_of};
-use crate::measured::{Measured, measure};
+use crate::loops::{Loops, Sides, form_loops, form_sides, has_bit};
+use crate::measured::measure;
 use crate::quiet::is_far_below;
 use relay_num::{Cx, Steps};
-use relay_settings::{Dir, LineSettings, ZoneSettings};
+use relay_settings::{Dir, LineSettings, QuadSettings, Shape, ZonePart, ZoneSettings};
 use std::sync::ledger::Ledger;
 use supervise::current_allowed;
-use zone_shape::{FormedLoop, zone_holds_formed};
+use zone_shape::{FormedLoop, is_reverse};
 
 /// The masks of the loops inside each of five zones, for what is measured where the sample is ready and what
-/// the guards say of it. Without a loop that has the least current nothing more is formed. At most 30 steps.
+/// the guards say of it. `greatest` is the greatest part of the phase currents: without a loop that has the least
+/// current nothing more is formed. At most 30 steps.
 pub fn inside_masks<L: Ledger>(
     settings: &LineSettings,
     n: u32,
     phasors: &Option<[Cx; 8]>,
+    greatest: u64,
     polarising: Option<Cx>,
     swing: bool,
     blown: bool,
@@ -37,6 +40,7 @@ pub fn inside_masks<L: Ledger>(
     requires settings { IsLine settings.now }
     requires n { (n ≡ 80) ⊎ (n ≡ 96) }
     requires phasors { ForSome phasors.now (All (λ p. IsBelow p (2 ^ 30 + 1))) }
+    requires greatest { greatest ≡ greatest_by (option_map measured phasors.now) }
     requires polarising { ForSome polarising (λ p. IsBelow p (2 ^ 32)) }
     ensures masks { result ≡ inside_masks_by n (plain_line settings.now) (option_map measured phasors.now) polarising swing blown }
     ensures cost { steps.new ≤ steps.old + 30 }
@@ -44,36 +48,43 @@ pub fn inside_masks<L: Ledger>(
     let Some(phasors) = phasors else {
         return [0; 5];
     };
-    if blown {
+    if blown || is_far_below(greatest, n, settings.i_min) {
         return [0; 5];
     }
+    formed_masks(settings, n, phasors, polarising, swing, steps)
+}
+
+/// The same of phasors that are there, where no fuse is blown. Few samples need this, so it is kept apart.
+#[inline(never)]
+fn formed_masks<L: Ledger>(
+    settings: &LineSettings,
+    n: u32,
+    phasors: &[Cx; 8],
+    polarising: Option<Cx>,
+    swing: bool,
+    steps: &mut Steps<L>,
+) -> [u8; 5]
+    requires settings { IsLine settings.now }
+    requires n { (n ≡ 80) ⊎ (n ≡ 96) }
+    requires phasors { All (λ p. IsBelow p (2 ^ 30 + 1)) phasors.now }
+    requires polarising { ForSome polarising (λ p. IsBelow p (2 ^ 32)) }
+    ensures masks { result ≡ inside_masks_by n (plain_line settings.now) (Some (measured phasors.now)) polarising swing false }
+    ensures cost { steps.new ≤ steps.old + 30 }
+{
     let m = measure(phasors);
-    let with_current = with_current(settings, n, &m);
+    let with_current = current_allowed(
+        &m.currents,
+        m.current.zero,
+        n,
+        settings.i_min,
+        settings.i0_min,
+    );
     if with_current == 0 {
         return [0; 5];
     }
     let loops = form_loops(settings, &m, polarising, with_current);
     let sides = form_sides(settings, n, &m, &loops, with_current);
     five_masks(settings.zones.as_slice(), &loops, &sides, swing, steps)
-}
-
-/// The mask of the loops that have the least current.
-fn with_current(settings: &LineSettings, n: u32, m: &Measured) -> u8
-    requires settings { IsLine settings.now }
-    requires n { (n ≡ 80) ⊎ (n ≡ 96) }
-    requires measured { IsMeasured m.now }
-    ensures { result ≡ loop_mask (has_current n (plain_line settings.now) m.now) }
-{
-    if is_far_below(&m.currents, n, settings.i_min) {
-        return 0;
-    }
-    current_allowed(
-        &m.currents,
-        m.current.zero,
-        n,
-        settings.i_min,
-        settings.i0_min,
-    )
 }
 
 /// The masks of five zones, 0 where there is no such zone.
@@ -116,7 +127,17 @@ fn mask_at<L: Ledger>(
     }
 }
 
-/// The mask of the loops inside a zone.
+/// What a part of a zone asks of three loops besides its shape.
+#[derive(Clone, Copy)]
+struct Asked {
+    /// The loops that the zone may hold, the lowest bit for the first of the three.
+    candidates: u8,
+    /// The zone looks backwards.
+    reversed: bool,
+}
+
+/// The mask of the loops inside a zone: those that have the least current and the direction that the zone asks, that
+/// load doesn't block, and that are within the characteristic of their part, which is tested last.
 fn zone_mask<L: Ledger>(
     zone: &ZoneSettings,
     loops: &Loops,
@@ -131,38 +152,95 @@ fn zone_mask<L: Ledger>(
     if zone.swing_block & swing {
         return 0;
     }
-    let load_blocks = zone.load_block & sides.is_load;
-    mask_of([
-        holds(zone, &loops.ag, sides, load_blocks, 0, steps),
-        holds(zone, &loops.bg, sides, load_blocks, 1, steps),
-        holds(zone, &loops.cg, sides, load_blocks, 2, steps),
-        holds(zone, &loops.ab, sides, load_blocks, 3, steps),
-        holds(zone, &loops.bc, sides, load_blocks, 4, steps),
-        holds(zone, &loops.ca, sides, load_blocks, 5, steps),
-    ])
+    let reversed = is_reverse(zone.dir);
+    let candidates = candidates(zone.dir, sides);
+    let asked = Asked {
+        candidates,
+        reversed,
+    };
+    let ground = part_mask(&zone.ground, asked, &loops.ag, &loops.bg, &loops.cg, steps);
+    if zone.load_block & sides.is_load {
+        return ground;
+    }
+    let asked = Asked {
+        candidates: candidates / 8,
+        reversed,
+    };
+    ground + 8 * part_mask(&zone.phase, asked, &loops.ab, &loops.bc, &loops.ca, steps)
 }
 
-/// Whether a zone holds a loop: the loop has the least current and the direction that the zone asks, load
-/// doesn't block it, and it is within the zone's characteristic, which is tested last.
-#[tactic(auto, unfolding(crate::specs::FormedLoops::holds_formed, crate::specs::Inside::is_within_zone))]
-fn holds<L: Ledger>(
-    zone: &ZoneSettings,
-    formed: &FormedLoop,
-    sides: &Sides,
-    load_blocks: bool,
-    lp: usize,
+/// The mask of the loops inside a part of a zone, the lowest bit for the first of three.
+#[inline(never)]
+fn part_mask<L: Ledger>(
+    part: &Option<ZonePart>,
+    asked: Asked,
+    a: &FormedLoop,
+    b: &FormedLoop,
+    c: &FormedLoop,
     steps: &mut Steps<L>,
-) -> bool
-    requires zone { IsZone zone.now }
-    requires lp { lp < 6 }
-    ensures holds { result ≡ holds_formed zone.now formed.now sides.now load_blocks lp }
-    ensures cost { steps.new ≤ steps.old + 1 }
+) -> u8
+    requires part { ForSome part.now IsZonePart }
+    ensures mask { result ≡ part_mask part.now asked.candidates asked.reversed a.now b.now c.now }
+    ensures few { result < 8 }
+    ensures cost { steps.new ≤ steps.old + 3 }
 {
-    let is_blocked = load_blocks & (lp >= 3);
-    if is_blocked || !has_bit(candidates(zone.dir, sides), lp) {
-        return false;
+    match part {
+        Some(part) => match &part.shape {
+            Shape::Mho(reach) => circle_mask(*reach, asked, a, b, c, steps),
+            Shape::Quad(quad) => quad_mask(quad, asked, a, b, c, steps),
+        },
+        None => 0,
     }
-    zone_holds_formed(zone, lp, formed, steps)
+}
+
+/// The mask of the loops inside a circle.
+fn circle_mask<L: Ledger>(
+    reach: Cx,
+    asked: Asked,
+    a: &FormedLoop,
+    b: &FormedLoop,
+    c: &FormedLoop,
+    steps: &mut Steps<L>,
+) -> u8
+    requires reach { IsBelow reach reach_bound }
+    ensures mask { result ≡ shape_mask (Mho reach) asked.candidates asked.reversed a.now b.now c.now }
+    ensures few { result < 8 }
+    ensures cost { steps.new ≤ steps.old + 3 }
+{
+    three_bits(
+        has_bit(asked.candidates, 0) && a.is_in_circle(reach, asked.reversed, steps),
+        has_bit(asked.candidates, 1) && b.is_in_circle(reach, asked.reversed, steps),
+        has_bit(asked.candidates, 2) && c.is_in_circle(reach, asked.reversed, steps),
+    )
+}
+
+/// The mask of the loops inside a quadrilateral.
+fn quad_mask<L: Ledger>(
+    quad: &QuadSettings,
+    asked: Asked,
+    a: &FormedLoop,
+    b: &FormedLoop,
+    c: &FormedLoop,
+    steps: &mut Steps<L>,
+) -> u8
+    requires quad { IsQuad quad.now }
+    ensures mask { result ≡ shape_mask (Quad quad.now) asked.candidates asked.reversed a.now b.now c.now }
+    ensures few { result < 8 }
+    ensures cost { steps.new ≤ steps.old + 3 }
+{
+    three_bits(
+        has_bit(asked.candidates, 0) && a.is_in_quad(quad, asked.reversed, steps),
+        has_bit(asked.candidates, 1) && b.is_in_quad(quad, asked.reversed, steps),
+        has_bit(asked.candidates, 2) && c.is_in_quad(quad, asked.reversed, steps),
+    )
+}
+
+/// The number of three bits, the lowest first.
+fn three_bits(a: bool, b: bool, c: bool) -> u8
+    ensures mask { result ≡ mask (a ∷ b ∷ c ∷ []) }
+    ensures few { result < 8 }
+{
+    u8::from(a) + 2 * u8::from(b) + 4 * u8::from(c)
 }
 
 /// The loops that a zone of this direction may hold.

@@ -13,10 +13,11 @@ ghost use Rattle.memory_volt.specs.KeptMemory.{HoldsBelow};
 use crate::burst::Burst;
 use crate::decide::{is_dead, trips};
 use crate::delays::{ground_delays, phase_delays};
-use crate::events::{push_arrival, push_changes};
+use crate::events::{note_changes, push_arrival};
 use crate::front::Front;
 use crate::guards::{new_fuse, new_swing, polarise, take_fuse, take_swing};
 use crate::inside::inside_masks;
+use crate::quiet::greatest_part;
 use crate::shown::{Shown, points_of};
 use arrayvec::ArrayVec;
 use event_record::{At, at_of};
@@ -120,6 +121,7 @@ impl Line {
     }
 
     /// The same, with what it brings in place of what the burst held.
+    #[inline(always)]
     pub fn take_into<L: Ledger>(&mut self, a: &Asdu<'_>, burst: &mut Burst, steps: &mut Steps<L>)
         requires { ForSome (last_of self.old) (λ last. last < 2 ^ 60) }
         ensures grows { (most : ℕ) → ForSome (last_of self.old) (λ last. last ≤ most) → ForSome (last_of self.new) (λ last. last ≤ most + 4800) }
@@ -145,7 +147,9 @@ impl Line {
         let Some(number) = step.outcome.number() else {
             return;
         };
-        self.note(number, &step.phasors, burst, steps);
+        // A copy of its own, so that the step needn't be kept whole.
+        let phasors = step.phasors;
+        self.note(number, &phasors, burst, steps);
     }
 
     /// Takes a sample, whose phasors these are where it is ready: the guards, the loops inside each zone,
@@ -179,12 +183,21 @@ impl Line {
         let polarising = polarise(&mut self.memory, n, self.settings.mem_u, phasors, steps);
         let swing = take_swing(&mut self.swing, &self.settings.swing, phasors);
         let fuse = take_fuse(&mut self.fuse, n, &self.settings.fuse, phasors);
-        let inside = inside_masks(&self.settings, n, phasors, polarising, swing, fuse, steps);
+        let greatest = greatest_part(phasors);
+        let inside = inside_masks(
+            &self.settings,
+            n,
+            phasors,
+            greatest,
+            polarising,
+            swing,
+            fuse,
+            steps,
+        );
         let operate = self.timers.take(&inside);
         let operated = trips(self.settings.zones.as_slice(), &operate);
-        let trip = self
-            .trip
-            .take(number, operated, is_dead(&self.settings, n, phasors));
+        let dead = is_dead(&self.settings, n, phasors, greatest);
+        let trip = self.trip.take(number, operated, dead);
         let shown = Shown {
             ready: phasors.is_some(),
             swing,
@@ -192,11 +205,11 @@ impl Line {
             inside,
             operate,
         };
-        push_changes(
+        note_changes(
             &mut burst.events,
             &self.common,
             Some(number),
-            &self.shown,
+            &mut self.shown,
             &shown,
             &trip,
         );
@@ -206,7 +219,6 @@ impl Line {
             &points_of(&shown, trip.on),
             &mut burst.send,
         );
-        self.shown = shown;
     }
 
     /// Whether a sample set is the line's own, which its svID says.

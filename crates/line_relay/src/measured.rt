@@ -21,7 +21,9 @@ pub struct Measured {
     pub current: Sequence,
 }
 
-/// What is formed of the phasors of IA, IB, IC, IN, UA, UB, UC and UN.
+/// What is formed of the phasors of IA, IB, IC, IN, UA, UB, UC and UN. Each caller asks for a part of it alone, and forms
+/// no more where it is inlined.
+#[inline(always)]
 pub fn measure(phasors: &[Cx; 8]) -> Measured
     requires { All (λ p. IsBelow p (2 ^ 30 + 1)) phasors.now }
     ensures value { result ≡ measured phasors.now }

@@ -80,6 +80,23 @@ module _ (rate last counter : ℕ) (big : 65 < rate) (low : counter < rate) wher
         elim side [ above m d ↦ omega (arith, phase-lt) | below m d ↦ ne (omega (arith, phase-lt)) ])
   ])
 
+  -- the counter that follows is one ahead, and no other is
+  pub follows : (last + 1) % rate ≡ counter → distance ≡ 1
+  follows e =
+      let q : (last % rate + 1) % rate ≡ counter = mod-add-mod last rate 1 ∙ e in
+      elim (cases_lt (last % rate + 1) rate) [
+        | inl l ↦ (let p : last % rate + 1 ≡ counter = sym (mod_below (last % rate + 1) rate l) ∙ q in
+            elim side [ above m d ↦ omega (arith, phase-lt) | below m d ↦ absurd (omega (arith, phase-lt)) ])
+        | inr l ↦ (let p : last % rate + 1 - rate ≡ counter = sym (mod_above (last % rate + 1) rate l (omega (arith, phase-lt))) ∙ q in
+            elim side [ above m d ↦ absurd (omega (arith, phase-lt)) | below m d ↦ omega (arith, phase-lt) ])
+      ]
+
+  pub one_follows : distance ≡ 1 → (last + 1) % rate ≡ counter
+  one_follows e =
+      let on : last + 1 + 0 ≡ last + 1 = omega arith in
+      let q : is_congruent rate (last + 1 + 0) counter ≡ true = ahead_at 0 (omega arith) e in
+      ap (λ x. x % rate) (sym on) ∙ eqb-true ((last + 1 + 0) % rate) (counter % rate) q ∙ mod_below counter rate low
+
   none_behind : 0 < distance → distance + 64 < rate → any_below 64 (λ b. is_congruent rate (counter + (b + 1)) last) ≡ false
   none_behind pos far = any_below_none 64 (λ b. is_congruent rate (counter + (b + 1)) last)
       (λ b h. not_behind_at b h (λ e. omega arith) (λ e. omega arith))

@@ -16,6 +16,10 @@ pub(crate) fn after(rate: u64, last: u64, counter: u64) -> Taken
     ensures outcome { result ≡ outcome_after rate last counter }
     ensures near { ForSome (number_of result) (λ number. number < last + rate) }
 {
+    // Most counters follow, and one division tells so.
+    if (last + 1) % rate == counter {
+        return Taken::Next { number: last + 1 };
+    }
     let distance = (counter + rate - last % rate) % rate;
     if distance == 0 {
         Taken::Repeat
@@ -23,8 +27,6 @@ pub(crate) fn after(rate: u64, last: u64, counter: u64) -> Taken
         Taken::Late {
             behind: (rate - distance) as u32,
         }
-    } else if distance == 1 {
-        Taken::Next { number: last + 1 }
     } else {
         Taken::Jump {
             number: last + distance,

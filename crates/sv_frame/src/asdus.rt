@@ -14,19 +14,7 @@ use ber_fields::head;
 use relay_num::Steps;
 use std::sync::ledger::Ledger;
 
-/// The ASDU whose fields, sixteen at most, fill the bytes.
-fn asdu_of<'a, L: Ledger>(text: &'a [u8], steps: &mut Steps<L>) -> Option<Asdu<'a>>
-    requires { length text.now ≤ 2048 }
-    ensures exact { option_map plain_asdu result ≡ asdu_of text.now }
-    ensures cost { steps.new ≤ steps.old + 16 }
-{
-    if let Some(asdu) = usual_asdu(text) {
-        return Some(asdu);
-    }
-    gathered_asdu(text, steps)
-}
-
-/// The same, head by head.
+/// The ASDU whose fields, sixteen at most, fill the bytes, head by head.
 #[inline(never)]
 fn gathered_asdu<'a, L: Ledger>(text: &'a [u8], steps: &mut Steps<L>) -> Option<Asdu<'a>>
     requires { length text.now ≤ 2048 }
@@ -79,10 +67,14 @@ pub(crate) fn asdus_of<'a, L: Ledger>(
         }
         at = text.end;
         left -= 1;
-        match asdu_of(&bytes[text.start..text.end], steps) {
+        let fields = &bytes[text.start..text.end];
+        match usual_asdu(fields) {
             Some(asdu) => found.push(asdu),
-            // The count comes first, so the elements behind are still counted.
-            None => whole = false,
+            None => match gathered_asdu(fields, steps) {
+                Some(asdu) => found.push(asdu),
+                // The count comes first, so the elements behind are still counted.
+                None => whole = false,
+            },
         }
     }
     if at < bytes.len() {

@@ -1,6 +1,7 @@
 //! The frame: what stands in front of the APDU, and the layers one after the other.
 ghost use Rattle.std.specs.Prelude.{◌≡◌, ◌+◌, ◌*◌, ◌<◌, ◌≤◌, length, min, [], IfSome, IfOk, OnOk};
 ghost use Rattle.std.specs.Option.{option_map};
+ghost use Rattle.byteorder.specs.Endian.{big_number};
 ghost use Rattle.sv_frame.specs.Asdu.{plain_asdus};
 ghost use Rattle.sv_frame.specs.Frame.{begins, untagged, payload_of, apdu_of, asdus_in};
 ghost use Rattle.sv_frame.specs.Sequence.{asdus_in_parts};
@@ -75,6 +76,17 @@ fn apdu_of<'a>(before: usize, payload: &'a [u8], captured: u32) -> Result<&'a [u
     Ok(&payload[8..counted])
 }
 
+/// The number that these bytes are in the order of the net. One byte is the usual case.
+fn number_of(bytes: &[u8]) -> u64
+    requires { (0 < length bytes.now) × (length bytes.now ≤ 4) }
+    ensures { result ≡ big_number (length bytes.now) bytes.now }
+{
+    if let [byte] = bytes {
+        return *byte as u64;
+    }
+    BigEndian::read_uint(bytes, bytes.len())
+}
+
 /// The sample sets of as many elements as the count says, from one to sixteen.
 fn asdus_in_parts<'a, L: Ledger>(
     parts: Parts<'a>,
@@ -87,7 +99,7 @@ fn asdus_in_parts<'a, L: Ledger>(
     ensures cost { steps.new ≤ steps.old + 17 * 16 }
     ensures each { OnOk result (steps.new ≤ steps.old + 17 * length found.new.items) }
 {
-    let count = BigEndian::read_uint(parts.count, parts.count.len());
+    let count = number_of(parts.count);
     if count == 0 || count > 16 {
         return Err(Reason::Count);
     }

@@ -10,7 +10,7 @@ use crate::towards;
 use mho_zone::{Polarised, mho_inside};
 use quad_zone::{LoopImpedance, quad_inside};
 use relay_num::{Cx, Steps};
-use relay_settings::{QuadSettings, Shape};
+use relay_settings::QuadSettings;
 use std::sync::ledger::Ledger;
 
 /// A loop, and what the shapes of all zones ask of it, formed once. Where that wasn't formed a shape forms it itself.
@@ -37,7 +37,7 @@ impl FormedLoop {
     ghost use Rattle.relay_num.specs.Bounds.{reach_bound, loop_voltage_bound, loop_current_bound, polarising_bound};
     ghost use Rattle.relay_num.specs.Numbers.{IsBelow};
     ghost use Rattle.relay_settings.specs.declared.types.Shape.TheVariants.{Mho, Quad};
-    ghost use Rattle.relay_settings.specs.Ranges.{IsShape, IsQuad};
+    ghost use Rattle.relay_settings.specs.Ranges.{IsQuad};
     ghost use Rattle.zone_shape.specs.Polarising.{IsPolarisedBy};
     ghost use Rattle.zone_shape.specs.Shapes.{has_shape};
 
@@ -84,21 +84,10 @@ impl FormedLoop {
         &self.polarised
     }
 
-    /// Whether the loop is inside the shape, as `shape_holds` says, and in at most one step as there.
-    pub fn is_within<L: Ledger>(&self, shape: &Shape, reversed: bool, steps: &mut Steps<L>) -> bool
-        requires shape { IsShape shape.now }
-        ensures shape { result ≡ has_shape shape.now reversed self.now.u self.now.i self.now.pol }
-        ensures cost { steps.new ≤ steps.old + 1 }
-    {
-        match shape {
-            Shape::Mho(reach) => self.is_in_circle(*reach, reversed, steps),
-            Shape::Quad(quad) => self.is_in_quad(quad, reversed, steps),
-        }
-    }
-
-    /// Whether the loop is inside the circle of this reach; without a polarising voltage none is.
+    /// Whether the loop is inside the circle of this reach, as `shape_holds` says, and in at most one step as there:
+    /// without a polarising voltage no loop is.
     #[inline(always)]
-    fn is_in_circle<L: Ledger>(&self, reach: Cx, reversed: bool, steps: &mut Steps<L>) -> bool
+    pub fn is_in_circle<L: Ledger>(&self, reach: Cx, reversed: bool, steps: &mut Steps<L>) -> bool
         requires reach { IsBelow reach reach_bound }
         ensures shape { result ≡ has_shape (Mho reach) reversed self.now.u self.now.i self.now.pol }
         ensures cost { steps.new ≤ steps.old + 1 }
@@ -118,9 +107,9 @@ impl FormedLoop {
         }
     }
 
-    /// Whether the loop is inside the quadrilateral.
+    /// Whether the loop is inside the quadrilateral, as `shape_holds` says, and in at most one step as there.
     #[inline(always)]
-    fn is_in_quad<L: Ledger>(
+    pub fn is_in_quad<L: Ledger>(
         &self,
         quad: &QuadSettings,
         reversed: bool,

@@ -3,9 +3,8 @@
 //! The loop's voltage and the polarising voltage are counts of 10 mV, its current thousandths of 1 mA,
 //! reaches milliohms. A zone has a part for the loops to ground and one for those between phases, each with a
 //! shape of its own; a zone that looks backwards takes the opposite of the current. `FormedLoop` forms what the shapes
-//! of all zones ask of a loop once. It stands on `mho_zone`
-//! and `quad_zone` for the two shapes, on `relay_settings` for the settings, and on `relay_num` for complex
-//! numbers and counted steps.
+//! of all zones ask of a loop once. It stands on `mho_zone` and `quad_zone` for the two shapes, on `relay_settings` for
+//! the settings, and on `relay_num` for complex numbers and counted steps.
 #![tactic(auto)]
 
 ghost use Rattle.std.specs.Prelude.{◌≡◌, ◌≤◌, ◌+◌, if◌then◌else◌};
@@ -27,7 +26,7 @@ mod tests;
 mod zone;
 
 pub use formed::FormedLoop;
-pub use zone::{has_quad, zone_holds, zone_holds_formed};
+pub use zone::{has_quad, is_reverse, zone_holds};
 
 /// Whether a loop of voltage `u`, whose parts are at most 2^31 in size, and current `i`, whose parts are
 /// below 2^45, is inside the shape; `reversed` says that the zone looks backwards. A mho polarises from `pol`,

@@ -2,12 +2,13 @@
 
 ghost use Rattle.std.specs.Prelude.{◌≡◌, ◌<◌, ◌≤◌, ◌+◌};
 ghost use Rattle.std.specs.Option.{ForSome};
+ghost use Rattle.std.specs.List.{list_any};
 ghost use Rattle.relay_num.specs.Bounds.{loop_voltage_bound, loop_current_bound, polarising_bound};
 ghost use Rattle.relay_num.specs.Numbers.{IsBelow};
 ghost use Rattle.relay_settings.specs.Ranges.{IsZone, IsZonePart};
-ghost use Rattle.zone_shape.specs.ZoneParts.{part_of, is_reverse, is_in_zone};
+ghost use Rattle.zone_shape.specs.ZoneParts.{part_of, is_reverse, is_in_zone, is_quad_part, has_quad};
 
-use crate::{FormedLoop, shape_holds};
+use crate::shape_holds;
 use relay_num::{Cx, Steps};
 use relay_settings::{Dir, Shape, ZonePart, ZoneSettings};
 use std::sync::ledger::Ledger;
@@ -36,32 +37,19 @@ pub fn zone_holds<L: Ledger>(
     }
 }
 
-/// Whether loop `lp`, of which is formed what all zones ask, is inside the zone, as `zone_holds` says.
-pub fn zone_holds_formed<L: Ledger>(
-    zone: &ZoneSettings,
-    lp: usize,
-    formed: &FormedLoop,
-    steps: &mut Steps<L>,
-) -> bool
-    requires zone { IsZone zone.now }
-    ensures zone { result ≡ is_in_zone zone.now lp formed.now.u formed.now.i formed.now.pol }
-    ensures cost { steps.new ≤ steps.old + 1 }
-{
-    match part_of(zone, lp) {
-        Some(part) => formed.is_within(&part.shape, is_reverse(zone.dir), steps),
-        None => false,
-    }
-}
-
 /// Whether some zone has a quadrilateral.
-pub fn has_quad(zones: &[ZoneSettings]) -> bool {
+pub fn has_quad(zones: &[ZoneSettings]) -> bool
+    ensures { result ≡ list_any has_quad zones.now }
+{
     zones
         .iter()
         .any(|zone| is_quad(&zone.ground) || is_quad(&zone.phase))
 }
 
 /// Whether the part is a quadrilateral.
-fn is_quad(part: &Option<ZonePart>) -> bool {
+fn is_quad(part: &Option<ZonePart>) -> bool
+    ensures { result ≡ is_quad_part part.now }
+{
     match part {
         Some(part) => match part.shape {
             Shape::Mho(_) => false,
@@ -80,8 +68,8 @@ fn part_of(zone: &ZoneSettings, lp: usize) -> Option<ZonePart>
     if lp < 3 { zone.ground } else { zone.phase }
 }
 
-/// Whether the zone looks backwards.
-fn is_reverse(dir: Dir) -> bool
+/// Whether a zone of this direction looks backwards.
+pub fn is_reverse(dir: Dir) -> bool
     ensures { result ≡ is_reverse dir }
 {
     match dir {

@@ -3,11 +3,7 @@ use Rattle.event_record.specs.Time.{time_of}
 use Rattle.event_record.specs.declared.event.What.TheVariants.{SwingOn, SwingOff, FuseOn, FuseOff}
 use Rattle.line_relay.specs.Events.{edge, zone_edges, zone_beginnings}
 use Rattle.line_relay.specs.Shown.{trip_edge}
-use Rattle.std.proofs.Common.{◌∙◌, sym, ap}
-use Rattle.std.specs.Prelude.{◌++◌}
-use Rattle.std.proofs.lemmas.List.{append-nil}
-use Rattle.line_relay.specs.Events.{told}
-use Rattle.line_relay.proofs.EventLemmas.{told_append, shown_changes-same}
+use Rattle.line_relay.proofs.EventLemmas.{told_append}
 use Rattle.line_relay.proofs.events.push_changes.Goals as goal
 
 pub returns : goal.returns
@@ -22,11 +18,3 @@ returns c =
     let inside = told_append at start c.push_edge-3.new.events.items c.push_zone_edges.new.events.items _ (zone_edges before.inside now.inside) fuse c.push_zone_edges.ensures.events in
     let operate = told_append at start c.push_zone_edges.new.events.items c.push_zone_beginnings.new.events.items _ (zone_beginnings before.operate now.operate) inside c.push_zone_beginnings.ensures.events in
     told_append at start c.push_zone_beginnings.new.events.items c.push_trip.new.events.items _ (trip_edge c.args.trip.now) operate c.push_trip.ensures
-
-pub returns-then-is_as_before : goal.returns-then-is_as_before
-returns-then-is_as_before c =
-    let same = c.is_as_before.ensures.0 c.if-is_as_before.true in
-    let at = option_map (time_of c.args.common.now) c.args.last in
-    let start = c.args.events.now.items in
-    let none = shown_changes-same c.args.before.now c.args.now.now c.args.trip.now same.0 same.1 same.2 in
-    sym (append-nil start) ∙ ap (λ whats. start ++ told at whats) (sym none)

@@ -19,22 +19,34 @@ loop-left-preserved-in-Some g c =
     let fewer : c.loop-left.left ≡ suc (c.loop-left.left - 1) = omega arith in
     let len : length c.push.new.self.items ≡ length c.loop-left.found.items + 1 = omega arith in
     record {
-      read = rw (c.push.ensures.items, map_push) (goes_good _ _ (drop c.loop-left.at c.args.bytes.now) _ _ c.loop-left.whole (plain_asdus c.loop-left.found.items) (plain_asdu c.in-Some.asdu) _ fewer c.in-Ok.ensures.exact c.if-text-ne48.false c.in-Some.ensures.exact c.loop-left.invariant.read);
+      read = rw (c.push.ensures.items, map_push) (goes_good _ _ (drop c.loop-left.at c.args.bytes.now) _ _ c.loop-left.whole (plain_asdus c.loop-left.found.items) (plain_asdu c.in-Some.asdu) _ fewer c.in-Ok.ensures.exact c.if-text-ne48.false (sym c.in-Some.ensures) c.loop-left.invariant.read);
       here = omega (arith, c.in-Ok.ensures.within);
       few = omega arith;
       all = λ is. omega (arith, c.loop-left.invariant.all is);
-      cost = omega (arith, c.in-Some.ensures.cost);
+      cost = omega arith;
+    }
+
+pub loop-left-preserved-in-Some-gathered_asdu : goal.loop-left-preserved-in-Some-gathered_asdu
+loop-left-preserved-in-Some-gathered_asdu g c =
+    let fewer : c.loop-left.left ≡ suc (c.loop-left.left - 1) = omega arith in
+    let len : length c.push-in-Some-gathered_asdu.new.self.items ≡ length c.loop-left.found.items + 1 = omega arith in
+    record {
+      read = rw (c.push-in-Some-gathered_asdu.ensures.items, map_push) (goes_good _ _ (drop c.loop-left.at c.args.bytes.now) _ _ c.loop-left.whole (plain_asdus c.loop-left.found.items) (plain_asdu c.in-Some-gathered_asdu.asdu) _ fewer c.in-Ok.ensures.exact c.if-text-ne48.false c.in-Some-gathered_asdu.ensures.exact c.loop-left.invariant.read);
+      here = omega (arith, c.in-Ok.ensures.within);
+      few = omega arith;
+      all = λ is. omega (arith, c.loop-left.invariant.all is);
+      cost = omega (arith, c.in-Some-gathered_asdu.ensures.cost);
     }
 
 pub loop-left-preserved : goal.loop-left-preserved
 loop-left-preserved g c =
     let fewer : c.loop-left.left ≡ suc (c.loop-left.left - 1) = omega arith in
     record {
-      read = goes_bad _ _ (drop c.loop-left.at c.args.bytes.now) _ _ c.loop-left.whole (plain_asdus c.loop-left.found.items) _ fewer c.in-Ok.ensures.exact c.if-text-ne48.false c.in-None.ensures.exact c.loop-left.invariant.read;
+      read = goes_bad _ _ (drop c.loop-left.at c.args.bytes.now) _ _ c.loop-left.whole (plain_asdus c.loop-left.found.items) _ fewer c.in-Ok.ensures.exact c.if-text-ne48.false c.in-None-gathered_asdu.ensures.exact c.loop-left.invariant.read;
       here = omega (arith, c.in-Ok.ensures.within);
       few = omega arith;
       all = λ is. absurd cc;
-      cost = omega (arith, c.in-None.ensures.cost);
+      cost = omega (arith, c.in-None-gathered_asdu.ensures.cost);
     }
 
 pub returns-then-at-bytes-clause-exact : goal.returns-then-at-bytes-clause-exact

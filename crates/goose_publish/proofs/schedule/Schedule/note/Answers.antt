@@ -7,13 +7,13 @@ use Rattle.goose_publish.proofs.schedule.Schedule.note.Goals as goal
 pub returns-then-changes-clause-after : goal.returns-then-changes-clause-after
 returns-then-changes-clause-after c common takes stands rises =
     changed_next common takes c.args.self.now stands (take_of c.args.number c.args.points.now) rises
-    (sym (c.changes-changes.ensures common takes c.args.number stands) ∙ c.if-changes.true)
+    (sym (c.changes.ensures common takes c.args.number stands) ∙ c.if-changes.true)
     _ refl refl c.next_of-self.ensures refl (c.restart.ensures common stands.pace.k stands.pace.at)
 
 pub returns-then-pass-clause-sends : goal.returns-then-pass-clause-sends
 returns-then-pass-clause-sends c common takes stands rises =
     let t = take_of c.args.number c.args.points.now in
-    let same = sym (c.changes-changes.ensures common takes c.args.number stands) ∙ c.if-changes.false in
+    let same = sym (c.changes.ensures common takes c.args.number stands) ∙ c.if-changes.false in
     let due = due_now common takes c.args.self.now stands t rises c.saturating_sub.result c.saturating_sub.ensures same
     ∙ sym (c.pass.ensures.due common stands.pace.k stands.pace.at) ∙ c.if-pass.true in
     sym (ap₂ (λ a b. a || b) same due)
@@ -21,7 +21,7 @@ returns-then-pass-clause-sends c common takes stands rises =
 pub returns-then-pass-clause-after : goal.returns-then-pass-clause-after
 returns-then-pass-clause-after c common takes stands rises =
     let t = take_of c.args.number c.args.points.now in
-    let same = sym (c.changes-changes.ensures common takes c.args.number stands) ∙ c.if-changes.false in
+    let same = sym (c.changes.ensures common takes c.args.number stands) ∙ c.if-changes.false in
     let due = due_now common takes c.args.self.now stands t rises c.saturating_sub.result c.saturating_sub.ensures same
     ∙ sym (c.pass.ensures.due common stands.pace.k stands.pace.at) ∙ c.if-pass.true in
     same_next common takes c.args.self.now stands t rises c.saturating_sub.result c.saturating_sub.ensures same
@@ -34,7 +34,7 @@ returns-then-pass-clause-after c common takes stands rises =
 pub returns-else-pass-clause-sends : goal.returns-else-pass-clause-sends
 returns-else-pass-clause-sends c common takes stands rises =
     let t = take_of c.args.number c.args.points.now in
-    let same = sym (c.changes-changes.ensures common takes c.args.number stands) ∙ c.if-changes.false in
+    let same = sym (c.changes.ensures common takes c.args.number stands) ∙ c.if-changes.false in
     let due = due_now common takes c.args.self.now stands t rises c.saturating_sub.result c.saturating_sub.ensures same
     ∙ sym (c.pass.ensures.due common stands.pace.k stands.pace.at) ∙ c.if-pass.false in
     sym (ap₂ (λ a b. a || b) same due)
@@ -42,7 +42,7 @@ returns-else-pass-clause-sends c common takes stands rises =
 pub returns-else-pass-clause-after : goal.returns-else-pass-clause-after
 returns-else-pass-clause-after c common takes stands rises =
     let t = take_of c.args.number c.args.points.now in
-    let same = sym (c.changes-changes.ensures common takes c.args.number stands) ∙ c.if-changes.false in
+    let same = sym (c.changes.ensures common takes c.args.number stands) ∙ c.if-changes.false in
     let due = due_now common takes c.args.self.now stands t rises c.saturating_sub.result c.saturating_sub.ensures same
     ∙ sym (c.pass.ensures.due common stands.pace.k stands.pace.at) ∙ c.if-pass.false in
     same_next common takes c.args.self.now stands t rises c.saturating_sub.result c.saturating_sub.ensures same

@@ -16,6 +16,7 @@ use Rattle.line_relay.specs.Windows.{next_after, window, lanes_after, kept_now}
 use Rattle.line_relay.specs.Outcomes.{number_taken, sample_in, with_sample, taken_samples, taken_number, outcome_of}
 use Rattle.line_relay.specs.Steps.{step_by, step_of}
 use Rattle.line_relay.specs.Fronts.{StandsFor}
+use Rattle.line_relay.proofs.FilterLemmas.{kept_without}
 use Rattle.line_relay.proofs.CycleLemmas.{AllEight, window_next, phasors_are, phasors_small}
 use Rattle.line_relay.proofs.FrontLemmas.{rises, eights, cycle_some, cycle_few, channels_some, step_taken}
 use Rattle.relay_num.specs.WeightedSums.{real_weight, imaginary_weight}
@@ -78,8 +79,9 @@ module _ (g : given.Over) (c : goal.After-phasors g) where
     some : 0 < common.n
     some = cycle_some common.n (subst (λ n. is_cycle n ≡ true) stands.same_n c.args.self.now.cycle)
 
-    kept : c.kept-self.result ≡ kept_now settings.mimic (newest ∷ older)
-    kept = c.kept-self.ensures.kept ∙ rw (sample, stands.same_mimic) refl
+    kept : c.keep.new.before ≡ kept_now settings.mimic (newest ∷ older)
+    kept = c.keep.ensures.kept (λ none. stands.before ∙ ap (λ mimic. kept_now mimic older) (sym stands.same_mimic ∙ none) ∙ kept_without older)
+        ∙ rw (sample, stands.same_mimic) refl
 
     sliding : IsSliding common.n (c.in-Some-number.number + 1) c.take_values.new.ring c.take_values.new.slider
     sliding = subst (λ n. IsSliding n (c.in-Some-number.number + 1) c.take_values.new.ring c.take_values.new.slider) cycle c.take_values.ensures.state

@@ -57,8 +57,8 @@ inside_masks-inside-requires-clause-settings g c = ranges_of c.args.self.now.set
 pub inside_masks-inside-requires-clause-polarising : goal.inside_masks-inside-requires-clause-polarising
 inside_masks-inside-requires-clause-polarising g c = (c.polarise-polarising.ensures.small c.args.self.now.remembered).0
 
-pub is_dead-requires-clause-settings : goal.is_dead-requires-clause-settings
-is_dead-requires-clause-settings g c = ranges_of c.args.self.now.settings c.args.self.now.ranges
+pub is_dead-dead-requires-clause-settings : goal.is_dead-dead-requires-clause-settings
+is_dead-dead-requires-clause-settings g c = ranges_of c.args.self.now.settings c.args.self.now.ranges
 
 some_same : {X Y : Type 0} (f : X → Y) (o : Option X) → is_some o ≡ is_some (option_map f o)
 some_same f None = refl
@@ -136,8 +136,8 @@ module _ (g : given.Over) (c : goal.After-self-1 g) (s : Numbered) (past : List 
   operated = c.trips-operated.ensures ∙ ap (λ zones. trips_by zones c.take-operate.result) c.as_slice.ensures.value
       ∙ ap (trips_by settings.zones) operate ∙ NextLemmas.trips_is common settings longer
 
-  dead : c.is_dead.result ≡ is_dead_at common settings longer
-  dead = c.is_dead.ensures ∙ ap (dead_by common.n settings) next.formed ∙ NextLemmas.dead_is common settings cycle longer
+  dead : c.is_dead-dead.result ≡ is_dead_at common settings longer
+  dead = c.is_dead-dead.ensures ∙ ap (dead_by common.n settings) next.formed ∙ NextLemmas.dead_is common settings cycle longer
 
   -- the trip
   abbrev least : ℕ
@@ -146,13 +146,13 @@ module _ (g : given.Over) (c : goal.After-self-1 g) (s : Numbered) (past : List 
   abbrev open_run : ℕ
   open_run = samples common.rate settings.open_ms
 
-  taken : take_of c.args.number c.trips-operated.result c.is_dead.result ≡ trip_take common settings longer
+  taken : take_of c.args.number c.trips-operated.result c.is_dead-dead.result ≡ trip_take common settings longer
   taken = NextLemmas.take_same _ _ _ _ _ _ next.same_number operated dead
 
   abbrev trip_takes : List TripTake
   trip_takes = at_each (trip_take common settings) past
 
-  follows : Follows (take_of c.args.number c.trips-operated.result c.is_dead.result) trip_takes
+  follows : Follows (take_of c.args.number c.trips-operated.result c.is_dead-dead.result) trip_takes
   follows = subst (λ (t : TripTake). Follows t trip_takes) (sym taken)
       (follows_numbered number_of_sample (trips_at common settings) (is_dead_at common settings) (NextLemmas.dead_breaks common settings cycle) s past next.rises)
 
@@ -202,7 +202,8 @@ returns-clause-after g c s past next =
           (c.take-trip.ensures.after (least g c s past next) (open_run g c s past next) (trip_takes g c s past next) next.holds.trip (follows g c s past next));
       publisher = subst (λ (t : PointsTake). PublisherStandsFor common settings.goose (t ∷ points_takes g c s past next) c.publish.new.publisher) (point g c s past next)
           (c.publish.ensures.after common settings.goose (points_takes g c s past next) next.holds.publisher (rises g c s past next));
-      shown = ap (facts_shown (shown_now g c)) (sym (on g c s past next)) ∙ shown g c s past next;
+      shown = ap (λ (told : Shown). facts_shown told (is_tripped_at common settings (s ∷ past))) c.note_changes.ensures.shown
+          ∙ ap (facts_shown (shown_now g c)) (sym (on g c s past next)) ∙ shown g c s past next;
     }
 
 pub returns-clause-events : goal.returns-clause-events
@@ -210,14 +211,14 @@ returns-clause-events g c s past next =
     let common = c.args.self.now.common in
     let settings = plain_line c.args.self.now.settings in
     let was = is_tripped_at common settings past in
-    c.push_changes.ensures
+    c.note_changes.ensures.events
     ∙ ap (λ whats. c.args.burst.now.events.items ++ told (option_map (time_of common) (Some c.args.number)) whats)
     (shown_changes-are c.args.self.now.shown (shown_now g c) c.take-trip.result was (trip g c s past next ∙ ap (changed was) (sym (on g c s past next)))
     ∙ ap₂ changes next.holds.shown (shown g c s past next))
 
 pub returns-clause-printable : goal.returns-clause-printable
 returns-clause-printable g c before =
-    subst (All IsPrintable) (sym c.push_changes.ensures) (All-append IsPrintable _ _ before
+    subst (All IsPrintable) (sym c.note_changes.ensures.events) (All-append IsPrintable _ _ before
     (told-printable (option_map (time_of c.args.self.now.common) (Some c.args.number)) _ (time-printable c.args.self.now.common (Some c.args.number) c.args.self.now.rated)
     (changes-printable c.args.self.now.shown (shown_now g c) c.take-trip.result)))
 
