@@ -18,6 +18,8 @@ mod field;
 mod moment;
 mod number;
 mod pair;
+#[cfg(test)]
+mod tests;
 
 pub use data::PairSample;
 pub use pair::{Pair, PairError, read_pair};

@@ -10,6 +10,12 @@ use crate::field::{after, field};
 /// No number of a pair has more digits.
 const MOST_DIGITS: usize = 9;
 
+/// No number of several digits begins with it.
+const NEEDLESS: u8 = b'0';
+
+/// A value with `-` before it is at least so far from 0.
+const LEAST_BELOW: u64 = 1;
+
 /// No value of a channel is further from 0.
 const MOST_VALUE: u64 = 268_435_455;
 
@@ -39,7 +45,7 @@ pub(crate) fn number_of(bytes: &[u8]) -> Option<u64>
     if bytes.is_empty() {
         return None;
     }
-    if bytes[0] == b'0' && bytes.len() > 1 {
+    if bytes[0] == NEEDLESS && bytes.len() > 1 {
         return None;
     }
     digits(bytes)
@@ -55,7 +61,7 @@ fn value_of(bytes: &[u8]) -> Option<i64>
         return Some(number as i64);
     };
     let size = size_of(behind)?;
-    if size == 0 {
+    if size < LEAST_BELOW {
         return None;
     }
     Some(-(size as i64))

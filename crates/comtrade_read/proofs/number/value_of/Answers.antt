@@ -7,11 +7,11 @@ returns-in_err-size-clause-complete c z within is =
     let below = below_zero z c.args.bytes.now c.in-Some.behind.now within c.in-Some.ensures.sound is in
     absurd (none_some (suc below.less) (c.in_err-size.ensures.complete (suc below.less) below.small below.size))
 
-pub returns-then-size-eq0-clause-complete : goal.returns-then-size-eq0-clause-complete
-returns-then-size-eq0-clause-complete c z within is =
+pub returns-then-size-lt-LEAST_BELOW-clause-complete : goal.returns-then-size-lt-LEAST_BELOW-clause-complete
+returns-then-size-lt-LEAST_BELOW-clause-complete c z within is =
     let below = below_zero z c.args.bytes.now c.in-Some.behind.now within c.in-Some.ensures.sound is in
     let size = some_same c.in_ok-size.size (suc below.less) (c.in_ok-size.ensures.complete (suc below.less) below.small below.size) in
-    absurd (omega (arith, size, c.if-size-eq0.true))
+    absurd (omega (arith, size, c.if-size-lt-LEAST_BELOW.true))
 
 pub returns-clause-complete : goal.returns-clause-complete
 returns-clause-complete c z within is =
