@@ -7,3 +7,6 @@ pub mod TripLemmas
 pub mod WatchLemmas
 pub mod PlaceLemmas
 pub mod RecordLemmas
+pub mod DayLemmas
+pub mod CoverLemmas
+pub mod SaidLemmas

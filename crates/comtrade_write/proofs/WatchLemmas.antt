@@ -33,7 +33,7 @@ stands-recorded : (common : Common) (settings : PlainLine) (past : List Numbered
 stands-recorded common settings [] = sym (untripped common settings)
 stands-recorded common settings (s ∷ older) = refl
 
-rises-recorded : (common : Common) (settings : PlainLine) (past : List Numbered) → Rises number_of_sample past → Rises number_of_recorded (recorded common settings past)
+pub rises-recorded : (common : Common) (settings : PlainLine) (past : List Numbered) → Rises number_of_sample past → Rises number_of_recorded (recorded common settings past)
 rises-recorded common settings [] r = tt
 rises-recorded common settings (s ∷ []) r = tt
 rises-recorded common settings (s ∷ t ∷ older) r = (r.0, rises-recorded common settings (t ∷ older) r.1)

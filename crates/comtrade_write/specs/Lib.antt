@@ -3,6 +3,7 @@ pub mod Moments
 pub mod ConfigTexts
 pub mod DataTexts
 pub mod Recordings
+pub mod Said
 pub mod Kept
 pub mod KeptWindow
 pub mod KeptWatch

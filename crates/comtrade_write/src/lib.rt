@@ -10,16 +10,20 @@
 //! record covers), `specs/ConfigTexts` and `specs/DataTexts` (the lines), and `specs/Recordings` (the record of a
 //! line after the sample sets that were heard); `specs/KeptWindow` and `specs/KeptRecorder` say what the code keeps.
 //! It stands on `line_relay`, whose `Line` tells when a trip begins and ends and whose `Front` gives the samples, on
-//! `circular_buffer` for the samples that are kept and on `jiff` for dates. It takes memory only in `Recorder::new`.
+//! `circular_buffer` for the samples that are kept, on `jiff` for dates, and on `comtrade_read`, which reads a pair
+//! back and whose grammar the law in `laws` is about. It takes memory only in `Recorder::new`.
 #![tactic(auto)]
 
 mod config;
 mod covered;
 mod data;
+mod laws;
 mod moment;
 mod numbers;
 mod recorder;
 mod watch;
 mod window;
 
+pub use comtrade_read::{Pair, PairError, PairSample, read_pair};
+pub use laws::show_record_is_a_pair;
 pub use recorder::Recorder;

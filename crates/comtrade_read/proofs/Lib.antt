@@ -1,0 +1,6 @@
+pub mod FieldLemmas
+pub mod DigitLemmas
+pub mod MomentLemmas
+pub mod ConfigLemmas
+pub mod RowLemmas
+pub mod DataLemmas
