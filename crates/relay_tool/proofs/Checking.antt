@@ -5,7 +5,7 @@ use Rattle.std.proofs.lemmas.List.{take_more, map-append}
 use Rattle.std.proofs.lemmas.Bool.{cases_Bool}
 use Rattle.room_io.specs.Room.{RoomState, SlotState, at, Rose, OnlyAt, IsFile}
 use Rattle.room_io.specs.declared.room.Slot.{Slot}
-use Rattle.room_io.specs.declared.room.Slot.TheVariants.{Settings, Capture, Goose, Log, Note, Answer}
+use Rattle.room_io.specs.declared.room.Slot.TheVariants.{Settings, Capture, Goose, Log, Config, Data, Note, Answer}
 use Rattle.relay_settings.specs.Settings.{PlainLine, plain_line, plain_lines}
 use Rattle.relay_settings.specs.declared.types.LineSettings.{LineSettings}
 use Rattle.relay_tool.specs.Endings.{Ending, status_of, done, not_capture, fault}
@@ -27,6 +27,8 @@ file-apart Settings e = refl
 file-apart Capture e = refl
 file-apart Goose e = refl
 file-apart Log e = refl
+file-apart Config e = refl
+file-apart Data e = refl
 file-apart Note e = cc
 file-apart Answer e = cc
 
@@ -103,6 +105,8 @@ check-started name {a} {b} read named = record { named = names; ready = ready }
     names Capture file = read.alone.each Capture refl (λ e. cc)
     names Goose file = read.alone.each Goose refl (λ e. cc)
     names Log file = read.alone.each Log refl (λ e. cc)
+    names Config file = read.alone.each Config refl (λ e. cc)
+    names Data file = read.alone.each Data refl (λ e. cc)
     names Note file = cc
     names Answer file = cc
 
@@ -111,6 +115,8 @@ check-started name {a} {b} read named = record { named = names; ready = ready }
     ready Capture file some = cc
     ready Goose file some = cc
     ready Log file some = cc
+    ready Config file some = cc
+    ready Data file some = cc
     ready Note file some = cc
     ready Answer file some = cc
 

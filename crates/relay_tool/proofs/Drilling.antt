@@ -14,7 +14,7 @@ use Rattle.relay_tool.specs.KeptTally.{Counts}
 use Rattle.relay_tool.specs.declared.tally.Count.{Count}
 use Rattle.relay_tool.proofs.Parting.{heard-append}
 use Rattle.room_io.specs.declared.room.Slot.{Slot}
-use Rattle.room_io.specs.declared.room.Slot.TheVariants.{Settings, Capture, Goose, Log, Note, Answer}
+use Rattle.room_io.specs.declared.room.Slot.TheVariants.{Settings, Capture, Goose, Log, Config, Data, Note, Answer}
 use Rattle.drill.specs.PlannedFrames.{frames_of}
 use Rattle.drill.specs.DrillSettings.{drill_settings}
 use Rattle.relay_tool.specs.Words.{drill, word}
@@ -109,6 +109,8 @@ no-word seed seconds Settings = refl
 no-word seed seconds Capture = refl
 no-word seed seconds Goose = refl
 no-word seed seconds Log = refl
+no-word seed seconds Config = refl
+no-word seed seconds Data = refl
 no-word seed seconds Note = refl
 no-word seed seconds Answer = refl
 

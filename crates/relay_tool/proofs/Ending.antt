@@ -4,7 +4,7 @@ use Rattle.std.specs.Prelude.{Option, None, Some, Result, Ok, Err, OnOk, OnErr, 
 use Rattle.std.proofs.lemmas.Bool.{cases_Bool}
 use Rattle.room_io.specs.Room.{RoomState, SlotState, at, OnlyAt, Rose, IsFile, AppendsPart}
 use Rattle.room_io.specs.declared.room.Slot.{Slot}
-use Rattle.room_io.specs.declared.room.Slot.TheVariants.{Settings, Capture, Goose, Log, Note, Answer}
+use Rattle.room_io.specs.declared.room.Slot.TheVariants.{Settings, Capture, Goose, Log, Config, Data, Note, Answer}
 use Rattle.relay_tool.specs.Endings.{Ending, status_of, note_of, done, usage, refused, not_capture, cut, damaged, too_long, fault, no_memory}
 use Rattle.relay_tool.specs.Words.{Asked, replay, check, drill, study, word_of}
 use Rattle.relay_tool.specs.Output.{Item}
@@ -43,6 +43,8 @@ file-not-note Settings e = refl
 file-not-note Capture e = refl
 file-not-note Goose e = refl
 file-not-note Log e = refl
+file-not-note Config e = refl
+file-not-note Data e = refl
 file-not-note Note e = cc
 file-not-note Answer e = cc
 

@@ -4,7 +4,7 @@ use Rattle.std.specs.Prelude.{Option, None, Some, Result, Ok, Err, is_some}
 use Rattle.std.proofs.lemmas.Bool.{cases_Bool}
 use Rattle.room_io.specs.Room.{RoomState, SlotState, at, Rose, IsFile, IsUnused}
 use Rattle.room_io.specs.declared.room.Slot.{Slot}
-use Rattle.room_io.specs.declared.room.Slot.TheVariants.{Settings, Capture, Goose, Log, Note, Answer}
+use Rattle.room_io.specs.declared.room.Slot.TheVariants.{Settings, Capture, Goose, Log, Config, Data, Note, Answer}
 use Rattle.capture_feed.specs.Records.{Records, Stop, Whole, Damaged, Cut, TooLong}
 use Rattle.capture_feed.specs.Captures.{records}
 use Rattle.capture_feed.specs.Left.{found, Begins}
@@ -59,6 +59,8 @@ read-by asked name {a} {b} {r} is unused law reads =
     apart Capture ne = refl
     apart Goose ne = refl
     apart Log ne = refl
+    apart Config ne = refl
+    apart Data ne = refl
     apart Note ne = refl
     apart Answer ne = refl
 
@@ -148,6 +150,8 @@ module _ (asked : Asked) (job : Job) (is : IsJob asked job) where
       go Capture file = cc
       go Goose file = ap (λ (s : SlotState). s.name) (kept-at Goose capture.only refl) ∙ read.alone.each Goose refl (λ e. cc)
       go Log file = ap (λ (s : SlotState). s.name) (kept-at Log capture.only refl) ∙ read.alone.each Log refl (λ e. cc)
+      go Config file = ap (λ (s : SlotState). s.name) (kept-at Config capture.only refl) ∙ read.alone.each Config refl (λ e. cc)
+      go Data file = ap (λ (s : SlotState). s.name) (kept-at Data capture.only refl) ∙ read.alone.each Data refl (λ e. cc)
       go Note file = cc
       go Answer file = cc
 
@@ -200,6 +204,8 @@ module _ (asked : Asked) (job : Job) (is : IsJob asked job) where
   settings-apart Capture e = cc
   settings-apart Goose e = refl
   settings-apart Log e = refl
+  settings-apart Config e = refl
+  settings-apart Data e = refl
   settings-apart Note e = cc
   settings-apart Answer e = cc
 
@@ -208,6 +214,8 @@ module _ (asked : Asked) (job : Job) (is : IsJob asked job) where
   capture-apart Capture e = cc
   capture-apart Goose e = refl
   capture-apart Log e = refl
+  capture-apart Config e = refl
+  capture-apart Data e = refl
   capture-apart Note e = cc
   capture-apart Answer e = cc
 
@@ -441,9 +449,9 @@ module _ (asked : Asked) (job : Job) (is : IsJob asked job) where
 
 -- ---- all files are open
 
-pub replay-open : (names : Names) {a d e f : RoomState} {s : PlainSettings} {feed : Feed} → Begun (replay names) (replay_job names) (replay-is names) a d s feed →
+pub replay-open : (names : Names) {a d e f : RoomState} {s : PlainSettings} {feed : Feed} → IsUnstarted d → Begun (replay names) (replay_job names) (replay-is names) a d s feed →
     OpensOutput Goose names.goose d e (Ok tt) → OpensOutput Log names.log e f (Ok tt) → Opened (replay names) (replay_job names) (replay-is names) a f s feed
-replay-open names {a} {d} {e} {f} {s} {feed} before goose log =
+replay-open names {a} {d} {e} {f} {s} {feed} unstarted before goose log =
     let first = output-open (replay names) (replay_job names) (replay-is names) Goose names.goose refl refl before goose in
     let both = output-open (replay names) (replay_job names) (replay-is names) Log names.log refl refl first log in
     record { begun = both; start = record { named = named both; ready = ready } }
@@ -453,6 +461,8 @@ replay-open names {a} {d} {e} {f} {s} {feed} before goose log =
     named both Capture file = both.capture
     named both Goose file = ap (λ (x : SlotState). x.name) (kept-at Goose log.only refl) ∙ goose.named
     named both Log file = log.named
+    named both Config file = ap (λ (x : SlotState). x.name) (kept-at Config log.only refl ∙ kept-at Config goose.only refl) ∙ unstarted.each Config refl
+    named both Data file = ap (λ (x : SlotState). x.name) (kept-at Data log.only refl ∙ kept-at Data goose.only refl) ∙ unstarted.each Data refl
     named both Note file = cc
     named both Answer file = cc
 
@@ -461,6 +471,8 @@ replay-open names {a} {d} {e} {f} {s} {feed} before goose log =
     ready Capture file some = cc
     ready Goose file some = ap (λ (x : SlotState). x.is_ready) (kept-at Goose log.only refl) ∙ goose.ready
     ready Log file some = log.ready
+    ready Config file some = cc
+    ready Data file some = cc
     ready Note file some = cc
     ready Answer file some = cc
 
@@ -475,6 +487,8 @@ study-open x names {a} {d} {e} {s} {feed} unstarted before log =
     named both Capture file = both.capture
     named both Goose file = ap (λ (y : SlotState). y.name) (kept-at Goose log.only refl) ∙ unstarted.each Goose refl
     named both Log file = log.named
+    named both Config file = ap (λ (y : SlotState). y.name) (kept-at Config log.only refl) ∙ unstarted.each Config refl
+    named both Data file = ap (λ (y : SlotState). y.name) (kept-at Data log.only refl) ∙ unstarted.each Data refl
     named both Note file = cc
     named both Answer file = cc
 
@@ -483,5 +497,7 @@ study-open x names {a} {d} {e} {s} {feed} unstarted before log =
     ready Capture file some = cc
     ready Goose file some = cc
     ready Log file some = log.ready
+    ready Config file some = cc
+    ready Data file some = cc
     ready Note file some = cc
     ready Answer file some = cc

@@ -4,7 +4,7 @@ use Rattle.std.specs.Prelude.{Option, None, Some, if◌then◌else◌}
 use Rattle.std.proofs.lemmas.Bool.{cases_Bool}
 use Rattle.room_io.specs.Room.{RoomState, SlotState, at, OnlyAt, IsFile, IsOutput, IsUnopened, IsUnused}
 use Rattle.room_io.specs.declared.room.Slot.{Slot}
-use Rattle.room_io.specs.declared.room.Slot.TheVariants.{Settings, Capture, Goose, Log, Note, Answer}
+use Rattle.room_io.specs.declared.room.Slot.TheVariants.{Settings, Capture, Goose, Log, Config, Data, Note, Answer}
 use Rattle.room_io.proofs.Rooms.{tells-OnlyAt}
 use Rattle.relay_tool.specs.Words.{Asked, word_of}
 use Rattle.relay_tool.specs.Output.{Item}
@@ -17,6 +17,8 @@ written-file Settings e = cc
 written-file Capture e = cc
 written-file Goose e = (refl, refl)
 written-file Log e = (refl, refl)
+written-file Config e = (refl, refl)
+written-file Data e = (refl, refl)
 written-file Note e = cc
 written-file Answer e = cc
 
@@ -25,6 +27,8 @@ unused-name unused Settings e = unused.settings
 unused-name unused Capture e = unused.capture
 unused-name unused Goose e = unused.goose
 unused-name unused Log e = unused.log
+unused-name unused Config e = unused.config_file
+unused-name unused Data e = unused.data_file
 unused-name unused Note e = cc
 unused-name unused Answer e = cc
 
@@ -34,6 +38,8 @@ file-apart Settings e = (refl, refl)
 file-apart Capture e = (refl, refl)
 file-apart Goose e = (refl, refl)
 file-apart Log e = (refl, refl)
+file-apart Config e = (refl, refl)
+file-apart Data e = (refl, refl)
 file-apart Note e = cc
 file-apart Answer e = cc
 
@@ -134,5 +140,7 @@ alone-unstarted {room} alone = record { each = go }
     go Capture file = cc
     go Goose file = alone.each Goose refl (λ e. cc)
     go Log file = alone.each Log refl (λ e. cc)
+    go Config file = alone.each Config refl (λ e. cc)
+    go Data file = alone.each Data refl (λ e. cc)
     go Note file = cc
     go Answer file = cc

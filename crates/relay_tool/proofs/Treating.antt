@@ -30,6 +30,8 @@ works-writes p = OnlyUses-more within p
     within slots.Capture e = refl
     within slots.Goose e = e
     within slots.Log e = e
+    within slots.Config e = e
+    within slots.Data e = e
     within slots.Note e = refl
     within slots.Answer e = refl
 
@@ -42,6 +44,8 @@ apart slots.Settings e = refl
 apart slots.Capture e = cc
 apart slots.Goose e = refl
 apart slots.Log e = refl
+apart slots.Config e = refl
+apart slots.Data e = refl
 apart slots.Note e = refl
 apart slots.Answer e = refl
 
@@ -62,7 +66,7 @@ Appends-before {ws} {a} {b} {c} appended only = subst (λ (items : List Item). A
 abbrev pub add_all : List (List ℕ) → Records → Records
 add_all bodies records = record records { bodies = bodies ++ records.bodies }
 
-add_all-push : (bodies : List (List ℕ)) (body : List ℕ) (records : Records) → add_all bodies (add body records) ≡ add_all (bodies ++ body ∷ []) records
+pub add_all-push : (bodies : List (List ℕ)) (body : List ℕ) (records : Records) → add_all bodies (add body records) ≡ add_all (bodies ++ body ∷ []) records
 add_all-push bodies body records = ap (λ bs. let r : Records = record records { bodies = bs } in r) (sym (append_assoc bodies (body ∷ []) records.bodies))
 
 -- one record further
@@ -74,7 +78,7 @@ out-push tells bodies body =
     ∙ ap (λ items. out tells bodies ++ items) (append-nil (frame_items tells (1 + length bodies) (heard [] bodies) (reading body)))
     ∙ ap (λ k. out tells bodies ++ frame_items tells k (heard [] bodies) (reading body)) (omega arith)
 
-heard-push : (bodies : List (List ℕ)) (body : List ℕ) → heard [] (bodies ++ body ∷ []) ≡ reverse (sets_of (reading body)) ++ heard [] bodies
+pub heard-push : (bodies : List (List ℕ)) (body : List ℕ) → heard [] (bodies ++ body ∷ []) ≡ reverse (sets_of (reading body)) ++ heard [] bodies
 unfolding heard
 heard-push bodies body = heard-append [] bodies (body ∷ [])
 
@@ -88,7 +92,7 @@ out-split tells bodies body others =
     ∙ ap (λ k. out tells bodies ++ (frame_items tells k (heard [] bodies) (reading body) ++ items_from tells (k + 1) (reverse (sets_of (reading body)) ++ heard [] bodies) others)) (omega arith)
 
 -- what was lent is how the record is read
-lent-reading : (captured : ℕ) (bytes body : List ℕ) → length body ≡ captured → bytes ≡ take 2048 body → sv bytes captured ≡ reading body
+pub lent-reading : (captured : ℕ) (bytes body : List ℕ) → length body ≡ captured → bytes ≡ take 2048 body → sv bytes captured ≡ reading body
 lent-reading captured bytes body long lent = ap (λ xs. sv xs captured) lent ∙ ap (sv (take 2048 body)) (sym long)
 
 -- ---- the loop

@@ -2,7 +2,7 @@
 use Rattle.std.specs.Prelude.{ℕ, List, [], codes, ◌++◌}
 use Rattle.std.specs.Fmt.{decimal}
 use Rattle.room_io.specs.declared.room.Slot.{Slot}
-use Rattle.room_io.specs.declared.room.Slot.TheVariants.{Settings, Capture, Goose, Log, Note, Answer}
+use Rattle.room_io.specs.declared.room.Slot.TheVariants.{Settings, Capture, Goose, Log, Config, Data, Note, Answer}
 
 pub data Ending : Type 0 where
   -- the input was used to its end and all was written
@@ -37,6 +37,8 @@ slot_text Settings = codes "settings"
 slot_text Capture = codes "capture"
 slot_text Goose = codes "goose"
 slot_text Log = codes "log"
+slot_text Config = codes "config"
+slot_text Data = codes "data"
 slot_text Note = codes "note"
 slot_text Answer = codes "answer"
 

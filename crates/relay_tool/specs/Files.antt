@@ -2,7 +2,7 @@
 use Rattle.std.specs.Prelude.{◌≡◌, ◌≢◌, ◌⊎◌, ℕ, zero, suc, Bool, true, ◌==◌, ◌&&◌, not, if◌then◌else◌, IsTrue, is_some, List, [], ◌∷◌, ◌++◌, take, Option, None, Some}
 use Rattle.room_io.specs.Room.{RoomState, at, is_file, is_input, IsFile}
 use Rattle.room_io.specs.declared.room.Slot.{Slot}
-use Rattle.room_io.specs.declared.room.Slot.TheVariants.{Settings, Capture, Goose, Log, Note, Answer}
+use Rattle.room_io.specs.declared.room.Slot.TheVariants.{Settings, Capture, Goose, Log, Config, Data, Note, Answer}
 use Rattle.relay_tool.specs.Words.{Asked, word_of}
 use Rattle.relay_tool.specs.Output.{Item}
 
@@ -12,8 +12,10 @@ place_of Settings = 0
 place_of Capture = 1
 place_of Goose = 2
 place_of Log = 3
-place_of Note = 4
-place_of Answer = 5
+place_of Config = 4
+place_of Data = 5
+place_of Note = 6
+place_of Answer = 7
 
 abbrev pub is_slot : Slot → Slot → Bool
 is_slot a b = place_of a == place_of b

@@ -86,6 +86,8 @@ fn slot_text(slot: Slot) -> &'static [u8]
         Slot::Capture => b"capture",
         Slot::Goose => b"goose",
         Slot::Log => b"log",
+        Slot::Config => b"config",
+        Slot::Data => b"data",
         Slot::Note => b"note",
         Slot::Answer => b"answer",
     }

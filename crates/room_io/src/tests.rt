@@ -37,6 +37,10 @@ fn an_output_is_full_at_its_space(rt: HostRuntime) -> Result<(), Fail> {
     assert_eq!(rt; write_whole(&mut room, Slot::Note, b"note"), Ok(()));
     assert_eq!(rt; room.written(Slot::Goose), b"".as_slice());
     assert_eq!(rt; (room.faults(Slot::Log), room.faults(Slot::Note)), (2, 0));
+    room.open_out(Slot::Data, "b")?;
+    assert_eq!(rt; write_whole(&mut room, Slot::Data, b"1,0"), Ok(()));
+    assert_eq!(rt; room.written(Slot::Data), b"1,0".as_slice());
+    assert_eq!(rt; room.written(Slot::Config), b"".as_slice());
     Ok(())
 }
 

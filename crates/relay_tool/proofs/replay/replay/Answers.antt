@@ -8,7 +8,7 @@ use Rattle.relay_tool.specs.Words.{replay}
 use Rattle.relay_tool.specs.Output.{heard_items}
 use Rattle.relay_tool.specs.Run.{replay_job}
 use Rattle.relay_tool.proofs.Writing.{put-made}
-use Rattle.relay_tool.proofs.Replaying.{read-by, settings-end, replay-is, refuses, capture-end, begun, output-end, output-open, replay-open, header-end, fault-end, stops-end}
+use Rattle.relay_tool.proofs.Replaying.{read-by, settings-end, replay-is, refuses, capture-end, unopened-outputs, begun, output-end, output-open, replay-open, header-end, fault-end, stops-end}
 use Rattle.relay_tool.proofs.replay.replay.Goals as goal
 
 pub returns-in_err-settings : goal.returns-in_err-settings
@@ -49,7 +49,7 @@ returns-in_err-put_goose_header g c =
     let s = plain_settings c.in_ok-settings.settings in
     let read = read-by (replay n) n.settings refl c.requires.unused (record { unopened = g.met.R.Room.unopened c.accept_settings.new.room }) c.in_ok-settings.ensures in
     let before = begun (replay n) (replay_job n) (replay-is n) s read (λ told. c.in_ok-settings.ensures.accepted.1 told) (record { unopened = g.met.R.Room.unopened c.open_capture.new.room }) c.in_ok-settings.ensures c.in_ok-open_capture.ensures in
-    let opened = replay-open n before c.in_ok-open_output.ensures c.in_ok-open_output-2.ensures in
+    let opened = replay-open n (unopened-outputs (replay n) (replay_job n) (replay-is n) read c.in_ok-open_capture.ensures) before c.in_ok-open_output.ensures c.in_ok-open_output-2.ensures in
     let p = err_from_is_err_and c.from_residual-in_err-put_goose_header.result c.from_residual-in_err-put_goose_header.ensures.1 in
     rw (p.1, p.2) (header-end (replay n) (replay_job n) (replay-is n) _ c.in_err-put_goose_header.field-0.0 opened (put-made Goose None (Err c.in_err-put_goose_header.field-0.0) refl c.in_err-put_goose_header.ensures))
 
@@ -59,7 +59,7 @@ returns-in_err-stopped g c =
     let s = plain_settings c.in_ok-settings.settings in
     let read = read-by (replay n) n.settings refl c.requires.unused (record { unopened = g.met.R.Room.unopened c.accept_settings.new.room }) c.in_ok-settings.ensures in
     let before = begun (replay n) (replay_job n) (replay-is n) s read (λ told. c.in_ok-settings.ensures.accepted.1 told) (record { unopened = g.met.R.Room.unopened c.open_capture.new.room }) c.in_ok-settings.ensures c.in_ok-open_capture.ensures in
-    let opened = replay-open n before c.in_ok-open_output.ensures c.in_ok-open_output-2.ensures in
+    let opened = replay-open n (unopened-outputs (replay n) (replay_job n) (replay-is n) read c.in_ok-open_capture.ensures) before c.in_ok-open_output.ensures c.in_ok-open_output-2.ensures in
     let made = put-made Goose None (Ok tt) refl c.in_ok-put_goose_header.ensures in
     let runs = c.in_err-stopped.ensures (heard_items s) (record { settings = s; is = refl; stands = c.in_ok-lines.ensures.0 }) in
     let p = err_from_is_err_and c.from_residual-in_err-stopped.result c.from_residual-in_err-stopped.ensures.1 in
@@ -71,7 +71,7 @@ returns g c =
     let s = plain_settings c.in_ok-settings.settings in
     let read = read-by (replay n) n.settings refl c.requires.unused (record { unopened = g.met.R.Room.unopened c.accept_settings.new.room }) c.in_ok-settings.ensures in
     let before = begun (replay n) (replay_job n) (replay-is n) s read (λ told. c.in_ok-settings.ensures.accepted.1 told) (record { unopened = g.met.R.Room.unopened c.open_capture.new.room }) c.in_ok-settings.ensures c.in_ok-open_capture.ensures in
-    let opened = replay-open n before c.in_ok-open_output.ensures c.in_ok-open_output-2.ensures in
+    let opened = replay-open n (unopened-outputs (replay n) (replay_job n) (replay-is n) read c.in_ok-open_capture.ensures) before c.in_ok-open_output.ensures c.in_ok-open_output-2.ensures in
     let made = put-made Goose None (Ok tt) refl c.in_ok-put_goose_header.ensures in
     let runs = c.in_ok-stopped.ensures (heard_items s) (record { settings = s; is = refl; stands = c.in_ok-lines.ensures.0 }) in
     stops-end (replay n) (replay_job n) (replay-is n) opened made _ c.in_ok-stopped.stopped runs
