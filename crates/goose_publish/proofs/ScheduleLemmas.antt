@@ -1,6 +1,6 @@
 -- What a publisher holds after one more take.
 use Rattle.std.proofs.Common.{◌≡◌, refl, ℕ, suc, ◌-◌, ◌*◌, ◌<◌, ◌≤◌, leb, true, false, sym, ap, ◌∙◌, arith, le_refl, inl, inr, List, [], ◌∷◌}
-use Rattle.std.specs.Prelude.{Some, if◌then◌else◌, Bool, ◌==◌, ◌&&◌}
+use Rattle.std.specs.Prelude.{Some, if◌then◌else◌, Bool, ◌==◌}
 use Rattle.std.specs.Bool.{beq}
 use Rattle.std.proofs.lemmas.Bool.{cases_Bool, cond-true, cond-false, false≢true, and_parts, eqb-true, not-false}
 use Rattle.sample_windows.specs.Numbered.{Rises}
