@@ -4,3 +4,4 @@ pub mod MomentLemmas
 pub mod ConfigLemmas
 pub mod RowLemmas
 pub mod DataLemmas
+pub mod OneMeaning

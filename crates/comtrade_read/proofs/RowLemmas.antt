@@ -43,7 +43,7 @@ pub row_parts : (i : ℕ) (micros : ℕ) (a b c d e f : ℤ) (good trip : Bool) 
 row_parts i micros a b c d e f good trip rest =
     shape (decimal i) (44 ∷ []) (decimal micros) (signed_decimal a) (signed_decimal b) (signed_decimal c) (signed_decimal d) (signed_decimal e) (signed_decimal f) (flag_text good) (flag_text trip) (13 ∷ 10 ∷ []) rest
 
-abbrev with_values : PairSample → List ℤ → PairSample
+abbrev pub with_values : PairSample → List ℤ → PairSample
 with_values s values = record { micros = s.micros; values = values; good = s.good; trip = s.trip }
 
 pub row_said : (i : ℕ) (s : PairSample) (rest : List ℕ) (six : AreSix s.values)

@@ -9,12 +9,14 @@
 //! Read `specs/Pairs` (when two texts are a pair), `specs/Configurations` and `specs/Moments` (the configuration), and
 //! `specs/Rows` (the data). Each text is defined by what it says, so a reader is a search for what makes the text: each
 //! of the private readers takes the front of a text, finds what it says and what stands behind, and finds nothing
-//! exactly where nothing fits. It stands on `jiff_core` for the calendar, and takes memory for the samples alone.
+//! exactly where nothing fits. The law `show_one_meaning` says that two texts say one thing at most. It stands on
+//! `jiff_core` for the calendar, and takes memory for the samples alone.
 #![tactic(auto)]
 
 mod config;
 mod data;
 mod field;
+mod laws;
 mod moment;
 mod number;
 mod pair;
@@ -22,4 +24,5 @@ mod pair;
 mod tests;
 
 pub use data::PairSample;
+pub use laws::show_one_meaning;
 pub use pair::{Pair, PairError, read_pair};

@@ -17,13 +17,15 @@ pub struct Pair {
 /// Why a pair isn't read.
 #[derive(Clone, Copy, Debug, PartialEq, Eq)]
 pub enum PairError {
-    /// Memory ran out.
+    /// The allocator had no room for the samples.
     NoMemory,
-    /// The texts are no pair.
+    /// The texts are no pair by the grammar.
     Refused,
 }
 
-/// Reads the configuration and the data of a record.
+/// Reads a record from its two whole texts: the configuration of 17 lines, and the data with a line a sample, at most
+/// 577, and the end of the file. `Refused` comes exactly where the texts are no pair by the grammar, and `NoMemory` where
+/// the allocator has no room for the samples.
 pub fn read_pair(alloc: Global, config_text: &[u8], data_text: &[u8]) -> Result<Pair, PairError>
     // What is read is what the texts say.
     ensures sound { IfOk result (λ p. IsPair config_text.now data_text.now p.rate p.samples.items) }

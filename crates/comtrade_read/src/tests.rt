@@ -639,6 +639,39 @@ fn each_broken_rule_is_refused(rt: HostRuntime) -> Result<(), Fail> {
     Ok(())
 }
 
+/// Data of so many samples, 208 microseconds apart.
+fn data_of(alloc: Global, count: u64) -> Result<String, Fail> {
+    let mut text = String::new(alloc);
+    for i in 0..count {
+        let micros = i.wrapping_mul(208);
+        let place = i.wrapping_add(1);
+        let line = format!(in alloc; "{place},{micros},0,0,0,0,0,0,1,0\r\n")?;
+        text.push_str(line.as_str())?;
+    }
+    text.push_str("\x1A")?;
+    Ok(text)
+}
+
+#[test]
+fn one_to_577_samples_are_read(rt: HostRuntime) -> Result<(), Fail> {
+    let rows: [(&str, u64, Option<PairError>); 4] = [
+        ("4800,0", 0, Some(PairError::Refused)),
+        ("4800,1", 1, None),
+        ("4800,577", 577, None),
+        ("4800,578", 578, Some(PairError::Refused)),
+    ];
+    for (line, count, error) in rows {
+        let config = changed(rt.alloc(), CONFIG, "4800,3", line)?;
+        let data = data_of(rt.alloc(), count)?;
+        assert_eq!(rt;
+            error_of(rt.alloc(), config.as_slice(), data.as_bytes()),
+            error,
+            "{line}"
+        );
+    }
+    Ok(())
+}
+
 #[test]
 fn empty_texts_are_refused(rt: HostRuntime) -> Result<(), Fail> {
     assert_eq!(rt;

@@ -1,7 +1,7 @@
 //! A ground fault that trips at the number 1525, and its record.
 ghost use Rattle.std.specs.Prelude.{◌≡◌, ◌<◌};
 
-use comtrade_write::Recorder;
+use comtrade_write::{PairError, PairSample, Recorder, read_pair};
 use relay_num::{Steps, open_steps, wave};
 use settings_read::read_settings;
 use std::alloc::{AllocError, Global};
@@ -171,6 +171,16 @@ fn config_of(alloc: Global, recorder: &Recorder) -> Result<Vec<u8>, AllocError> 
     Ok(text)
 }
 
+/// The data, all its lines.
+fn all_data_of(alloc: Global, recorder: &Recorder) -> Result<Vec<u8>, AllocError> {
+    let mut text = Vec::new(alloc);
+    let count = recorder.count();
+    for i in 0..count {
+        text.extend_from_slice(recorder.data_line(i + 1).as_slice())?;
+    }
+    Ok(text)
+}
+
 /// The i-th line of the data, if there is one.
 fn data_of_line(alloc: Global, recorder: &Recorder, i: usize) -> Result<Vec<u8>, AllocError> {
     let mut text = Vec::new(alloc);
@@ -263,5 +273,38 @@ fn second_trip_is_not_there(rt: HostRuntime) -> Result<(), Fail> {
     let recorder = recorder_of::<Brand>(rt.alloc(), &WHOLE, 2, Blank::new(1))?;
     assert_eq!(rt; recorder.trips(), 1);
     assert_eq!(rt; recorder.count(), 0);
+    Ok(())
+}
+
+/// The first and the 193rd line of the data, as they are read: the trip stands from the 193rd on.
+const FIRST: PairSample = PairSample {
+    micros: 0,
+    values: [0, 0, 0, 6_159_000, -7_757_500, 1_598_000],
+    good: true,
+    trip: false,
+};
+
+const TRIPPED: PairSample = PairSample {
+    micros: 40_000,
+    values: [-2_700_750, 0, 0, 3_079_500, -7_757_500, 1_598_000],
+    good: true,
+    trip: true,
+};
+
+#[test]
+fn record_reads_back(rt: HostRuntime) -> Result<(), Fail> {
+    let recorder = recorder_of::<Brand>(rt.alloc(), &WHOLE, 1, Blank::new(1))?;
+    let config = config_of(rt.alloc(), &recorder)?;
+    let mut data = all_data_of(rt.alloc(), &recorder)?;
+    let Ok(pair) = read_pair(rt.alloc(), config.as_slice(), data.as_slice()) else {
+        return Err(Fail::from("the pair isn't read"));
+    };
+    assert_eq!(rt; pair.rate, 4800);
+    assert_eq!(rt; pair.samples.len(), 577);
+    assert_eq!(rt; pair.samples.first(), Some(&FIRST));
+    assert_eq!(rt; pair.samples.get(192), Some(&TRIPPED));
+    assert_eq!(rt; data.pop(), Some(0x1A));
+    let cut = read_pair(rt.alloc(), config.as_slice(), data.as_slice());
+    assert_eq!(rt; cut.err(), Some(PairError::Refused));
     Ok(())
 }
