@@ -4,7 +4,7 @@ use Rattle.relay_settings.specs.declared.types.Common.{Common}
 use Rattle.relay_settings.specs.Settings.{PlainLine}
 use Rattle.sv_frame.specs.Asdu.{PlainAsdu}
 use Rattle.comtrade_write.specs.declared.recorder.Recorder.{Recorder}
-use Rattle.comtrade_write.specs.Recordings.{own_sets}
+use Rattle.line_bank.specs.Owners.{own}
 use Rattle.comtrade_write.specs.KeptWindow.{count_by}
 use Rattle.comtrade_write.specs.KeptWatch.{StandsFor as WatchStandsFor}
 
@@ -18,4 +18,4 @@ count_of recorder = count_by recorder.watch.window.trip recorder.watch.window.ri
 
 pub record StandsFor (common : Common) (settings : PlainLine) (k : ℕ) (past : List PlainAsdu) (recorder : Recorder) : Type 0 where
   pub same_common : recorder.common ≡ common
-  pub watch : WatchStandsFor common settings k (own_sets common settings past) recorder.watch
+  pub watch : WatchStandsFor common settings k (own settings past) recorder.watch

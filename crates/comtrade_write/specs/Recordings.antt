@@ -1,6 +1,5 @@
 -- The record of a line's k-th trip, over the sample sets that were heard, the newest first.
-use Rattle.std.specs.Prelude.{ℕ, ◌+◌, Bool, true, false, List, [], ◌∷◌, length, filter, count_by, Option, Some, None}
-use Rattle.std.specs.Str.{bytes_eq}
+use Rattle.std.specs.Prelude.{ℕ, ◌+◌, Bool, true, false, List, [], ◌∷◌, length, count_by, Option, Some, None}
 use Rattle.relay_settings.specs.declared.types.Common.{Common}
 use Rattle.relay_settings.specs.Settings.{PlainLine}
 use Rattle.sv_frame.specs.Asdu.{PlainAsdu}
@@ -10,6 +9,7 @@ use Rattle.event_record.specs.declared.event.Event.{Event}
 use Rattle.event_record.specs.declared.event.Event.TheVariants.{Malformed, Line}
 use Rattle.line_relay.specs.Outcomes.{taken_samples}
 use Rattle.line_relay.specs.Bursts.{burst}
+use Rattle.line_bank.specs.Owners.{own}
 use Rattle.comtrade_write.specs.declared.covered.Recorded.{Recorded}
 use Rattle.comtrade_write.specs.declared.covered.Span.{Span}
 use Rattle.comtrade_write.specs.Covered.{recorded, trip_count, trip_number, covered_at}
@@ -43,16 +43,9 @@ is_trip (Malformed frame reason) = false
 is_trip (Line at what) = is_trip_what what
 
 module _ (common : Common) (settings : PlainLine) where
-  -- a sample set is the line's own where it has the line's svID (IEC 61850-9-2)
-  abbrev pub is_own : PlainAsdu → Bool
-  is_own a = bytes_eq settings.sv_id a.sv_id
-
-  abbrev pub own_sets : List PlainAsdu → List PlainAsdu
-  own_sets asdus = filter is_own asdus
-
-  -- the samples that the line has taken
+  -- the samples that the line has taken of its own sample sets
   abbrev pub recorded_of : List PlainAsdu → List Recorded
-  recorded_of asdus = recorded common settings (taken_samples common settings (own_sets asdus))
+  recorded_of asdus = recorded common settings (taken_samples common settings (own settings asdus))
 
   abbrev pub trips_of : List PlainAsdu → ℕ
   trips_of asdus = trip_count (recorded_of asdus)

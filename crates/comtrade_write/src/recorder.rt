@@ -35,7 +35,8 @@ impl Recorder {
     ghost use Rattle.relay_settings.specs.Settings.{PlainLine, plain_lines};
     ghost use Rattle.relay_settings.specs.Ranges.{InRange, IsCount};
     ghost use Rattle.sv_frame.specs.Asdu.{PlainAsdu, plain_asdu};
-    ghost use Rattle.comtrade_write.specs.Recordings.{own_sets, trips_of, trips_told, covered_of, config_of, data_of};
+    ghost use Rattle.line_bank.specs.Owners.{own};
+    ghost use Rattle.comtrade_write.specs.Recordings.{trips_of, trips_told, covered_of, config_of, data_of};
     ghost use Rattle.comtrade_write.specs.KeptRecorder.{StandsFor, heard_of, count_of};
 
     /// A recorder of the k-th trip of the line at this place of the settings, which has heard nothing. `line` is
@@ -84,7 +85,7 @@ impl Recorder {
             result ≡ trips_of common settings past }
         // As many as the `trip` events that the line tells.
         ensures told { (common : Common) (settings : PlainLine) (k : ℕ) (past : List PlainAsdu) → StandsFor common settings k past self.now →
-            result ≡ trips_told common settings (own_sets common settings past) }
+            result ≡ trips_told common settings (own settings past) }
     {
         self.watch.window().trips()
     }

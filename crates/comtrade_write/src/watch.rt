@@ -33,7 +33,7 @@ impl Watch {
     ghost use Rattle.relay_settings.specs.Ranges.{IsCommon, IsLine};
     ghost use Rattle.sv_frame.specs.Asdu.{PlainAsdu, plain_asdu};
     ghost use Rattle.line_relay.specs.KeptLine.{last_of, name_of};
-    ghost use Rattle.comtrade_write.specs.Recordings.{is_own};
+    ghost use Rattle.line_bank.specs.Owners.{owns};
     ghost use Rattle.comtrade_write.specs.KeptWatch.{StandsFor, front_last, trips_by};
 
     /// A watch that has heard nothing. `NoMemory` comes only where the allocator has no room for what the line
@@ -66,7 +66,7 @@ impl Watch {
         requires trips { trips_by self.old < 2 ^ 60 }
         // By the line's own sample sets before: for each list of them that the watch stands for.
         ensures after { (common : Common) (settings : PlainLine) (k : ℕ) (asdus : List PlainAsdu) → StandsFor common settings k asdus self.old →
-            StandsFor common settings k (if is_own common settings (plain_asdu a.now) then plain_asdu a.now ∷ asdus else asdus) self.new }
+            StandsFor common settings k (if owns settings (plain_asdu a.now) then plain_asdu a.now ∷ asdus else asdus) self.new }
         ensures line { (most : ℕ) → ForSome (last_of self.old.line) (λ last. last ≤ most) → ForSome (last_of self.new.line) (λ last. last ≤ most + 4800) }
         ensures front { (most : ℕ) → ForSome (front_last self.old) (λ last. last ≤ most) → ForSome (front_last self.new) (λ last. last ≤ most + 4800) }
         ensures trips { trips_by self.new ≤ trips_by self.old + 1 }

@@ -5,11 +5,12 @@ use Rattle.relay_settings.specs.Ranges.{IsCommon, IsText}
 use Rattle.sample_windows.specs.Numbered.{Rises}
 use Rattle.line_relay.specs.Outcomes.{taken_samples}
 use Rattle.line_relay.proofs.FrontLemmas.{rises, some_cycle}
+use Rattle.line_bank.specs.Owners.{own}
 use Rattle.comtrade_read.specs.Pairs.{IsPair}
 use Rattle.comtrade_write.specs.declared.covered.Recorded.{Recorded}
 use Rattle.comtrade_write.specs.Covered.{trip_number, covered_at, number_of_recorded}
 use Rattle.comtrade_write.specs.DataTexts.{data_lines}
-use Rattle.comtrade_write.specs.Recordings.{own_sets, recorded_of, covered_by, config_by, first_number}
+use Rattle.comtrade_write.specs.Recordings.{recorded_of, covered_by, config_by, first_number}
 use Rattle.comtrade_write.specs.Said.{all_said}
 use Rattle.comtrade_write.proofs.WatchLemmas.{rises-recorded}
 use Rattle.comtrade_write.proofs.CoverLemmas.{AreFine, covers-window, fine-recorded}
@@ -26,6 +27,6 @@ by_trip name c rs is named rising fine (Some t) some =
 
 pub returns : goal.returns
 returns c common settings k past is named some =
-    let own = own_sets common settings past in
-    by_trip settings.name common (recorded_of common settings past) is named (rises-recorded common settings (taken_samples common settings own) (rises common settings own))
-    (fine-recorded common settings own) (trip_number k (recorded_of common settings past)) some
+    let sets = own settings past in
+    by_trip settings.name common (recorded_of common settings past) is named (rises-recorded common settings (taken_samples common settings sets) (rises common settings sets))
+    (fine-recorded common settings sets) (trip_number k (recorded_of common settings past)) some

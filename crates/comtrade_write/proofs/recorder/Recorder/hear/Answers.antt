@@ -1,5 +1,5 @@
 use Rattle.std.proofs.Common.{◌≤◌, ◌+◌, ◌*◌, arith}
-use Rattle.comtrade_write.specs.Recordings.{own_sets}
+use Rattle.line_bank.specs.Owners.{own}
 use Rattle.comtrade_write.proofs.recorder.Recorder.hear.Goals as goal
 
 pub invariant_of-self : goal.invariant_of-self
@@ -15,5 +15,5 @@ invariant_of-self g c = record {
 pub returns-clause-after : goal.returns-clause-after
 returns-clause-after g c common settings k past stands = record {
   same_common = stands.same_common;
-  watch = c.hear.ensures.after common settings k (own_sets common settings past) stands.watch;
+  watch = c.hear.ensures.after common settings k (own settings past) stands.watch;
 }
