@@ -6,6 +6,7 @@ mod failing;
 mod inputs;
 mod numbers;
 mod plain;
+mod records;
 mod sent;
 mod settings;
 mod signals;

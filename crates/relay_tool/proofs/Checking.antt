@@ -8,16 +8,17 @@ use Rattle.room_io.specs.declared.room.Slot.{Slot}
 use Rattle.room_io.specs.declared.room.Slot.TheVariants.{Settings, Capture, Goose, Log, Config, Data, Note, Answer}
 use Rattle.relay_settings.specs.Settings.{PlainLine, plain_line, plain_lines}
 use Rattle.relay_settings.specs.declared.types.LineSettings.{LineSettings}
-use Rattle.relay_tool.specs.Endings.{Ending, status_of, done, not_capture, fault}
+use Rattle.relay_tool.specs.Endings.{Ending, status_of, done, not_capture, no_line, fault}
 use Rattle.relay_tool.specs.Words.{Asked, check, word}
 use Rattle.relay_tool.specs.Run.{Run, run_of, zones_in}
 use Rattle.relay_tool.specs.Files.{IsWritten, is_slot, IsNamedBy, AreReady, IsStarted}
+use Rattle.relay_tool.specs.Answers.{IsRecording}
 use Rattle.relay_tool.specs.Making.{Puts}
 use Rattle.relay_tool.specs.Leaving.{Gives, EndsAs, Leaves}
 use Rattle.relay_tool.specs.declared.put.Failed.{Failed}
 use Rattle.relay_tool.proofs.Slots.{kept-at, same-slot}
 use Rattle.relay_tool.proofs.Staging.{unbegun, written-file}
-use Rattle.relay_tool.proofs.Replaying.{Read}
+use Rattle.relay_tool.proofs.Replaying.{Read, opened-by}
 use Rattle.room_io.proofs.Rooms.{tells-OnlyAt}
 
 -- ---- an answer to standard output
@@ -36,7 +37,7 @@ file-apart Answer e = cc
 abbrev pub answered : List ℕ → Run
 answered text = record { ending = done; answer = text; writes = [] }
 
-module _ (asked : Asked) {a b : RoomState} (d : RoomState) (text : List ℕ) (read : Read asked a b) (is : IsTrue a.tells → run_of (Some asked) a.contents ≡ answered text) where
+module _ (asked : Asked) (other : IsRecording (Some asked) → ⊥) {a b : RoomState} (d : RoomState) (text : List ℕ) (read : Read asked a b) (is : IsTrue a.tells → run_of (Some asked) a.contents ≡ answered text) where
   before : IsTrue a.tells → b.answer.bytes ≡ []
   before told = ap (λ (s : SlotState). s.bytes) read.stage.answer ∙ read.unused.answer told
 
@@ -64,10 +65,10 @@ module _ (asked : Asked) {a b : RoomState} (d : RoomState) (text : List ℕ) (re
     gives = λ told.
         subst (λ (r : Run). Gives r done d) (sym (is told))
         (record { ends_as = refl; files = empty-still puts.only; answer = puts.whole (read.stage.tells ∙ told) ∙ ap (λ xs. xs ++ text) (before told) });
-    started = λ _. record {
+    started = λ _. opened-by asked other (run_of (Some asked) a.contents) a 0 (record {
       named = λ slot file. ap (λ (x : SlotState). x.name) (still puts.only slot file) ∙ start.named slot file;
       ready = λ slot file some. ap (λ (x : SlotState). x.is_ready) (still puts.only slot (written-file slot file).0) ∙ start.ready slot file some;
-    };
+    });
     unstarted = λ no. absurd (no refl);
   })
 
@@ -85,6 +86,8 @@ module _ (asked : Asked) {a b : RoomState} (d : RoomState) (text : List ℕ) (re
       capture = λ e. cc;
       accepted = λ told two. absurd (zero-two (sym (ap (λ (r : Run). status_of r.ending) (is told)) ∙ two));
       header = λ told three. absurd (done-header (sym (ap (λ (r : Run). r.ending) (is told)) ∙ three));
+      named_line = λ told ten. absurd (done-line (sym (ap (λ (r : Run). r.ending) (is told)) ∙ ten));
+      some_trip = λ _ recording _. absurd (other recording);
     },
   ))
     where
@@ -93,6 +96,9 @@ module _ (asked : Asked) {a b : RoomState} (d : RoomState) (text : List ℕ) (re
 
       done-header : done ≡ not_capture → ⊥
       done-header e = cc
+
+      done-line : done ≡ no_line → ⊥
+      done-line e = cc
 
 -- ---- `check`
 

@@ -5,12 +5,12 @@ use Rattle.std.proofs.lemmas.Bool.{cases_Bool}
 use Rattle.room_io.specs.Room.{RoomState, SlotState, at, OnlyAt, Rose, IsFile, AppendsPart}
 use Rattle.room_io.specs.declared.room.Slot.{Slot}
 use Rattle.room_io.specs.declared.room.Slot.TheVariants.{Settings, Capture, Goose, Log, Config, Data, Note, Answer}
-use Rattle.relay_tool.specs.Endings.{Ending, status_of, note_of, done, usage, refused, not_capture, cut, damaged, too_long, fault, no_memory}
-use Rattle.relay_tool.specs.Words.{Asked, replay, check, drill, study, word_of}
+use Rattle.relay_tool.specs.Endings.{Ending, status_of, note_of, done, usage, refused, not_capture, cut, damaged, too_long, fault, no_memory, no_trip, no_line}
+use Rattle.relay_tool.specs.Words.{Asked, replay, check, drill, study, recording, word_of}
 use Rattle.relay_tool.specs.Output.{Item}
 use Rattle.relay_tool.specs.Run.{Run, Job, replay_job, study_job, run_of, all_writes}
 use Rattle.relay_tool.specs.Files.{IsWritten, Reaches, AreReady, AreNamed, IsNamedBy, IsUnstarted, HasSettingsAlone, IsStarted, is_slot, front}
-use Rattle.relay_tool.specs.Answers.{AnswersTo, IsNoted, JobFault, CaptureFault, FailsAt}
+use Rattle.relay_tool.specs.Answers.{AnswersTo, IsNoted, JobFault, CaptureFault, FailsAt, IsRecording, most_status, OpensPair, HasOpened}
 use Rattle.relay_tool.specs.Leaving.{Gives, Completes, Leaves}
 use Rattle.relay_tool.proofs.Slots.{same-slot, kept-at}
 use Rattle.relay_tool.proofs.Staging.{Laws, written-file, alone-unstarted}
@@ -108,6 +108,7 @@ module _ {mid new : RoomState} (only : OnlyAt Note mid new) where
   capture-new : (asked : Option Asked) (old : RoomState) → CaptureFault asked old mid → CaptureFault asked old new
   capture-new (Some (replay names)) old failed = job-new (replay names) (replay_job names) old failed
   capture-new (Some (study s names)) old failed = job-new (study s names) (study_job s names) old failed
+  capture-new (Some (recording names)) old none = unstarted-new none
   capture-new (Some (check settings)) old none = none
   capture-new (Some (drill seed seconds)) old none = none
   capture-new None old none = none
@@ -122,7 +123,25 @@ module _ {mid new : RoomState} (only : OnlyAt Note mid new) where
     capture = λ e. capture-new asked old (fails.capture e);
     accepted = fails.accepted;
     header = fails.header;
+    named_line = fails.named_line;
+    some_trip = fails.some_trip;
   }
+
+  pair-new : (asked : Option Asked) (run : Run) (old : RoomState) (status : ℕ) → OpensPair asked run old mid status → OpensPair asked run old new status
+  pair-new asked run old status opens = record {
+    whole = λ e. started-new asked (opens.whole e);
+    either = elim opens.either [ inl start ↦ inl (started-new asked start) | inr none ↦ inr (unstarted-new none) ];
+    written = λ told some. started-new asked (opens.written told some);
+    unwritten = λ told none. unstarted-new (opens.unwritten told none);
+  }
+
+  opened-new : (asked : Option Asked) (run : Run) (old : RoomState) (status : ℕ) → HasOpened asked run old mid status → HasOpened asked run old new status
+  opened-new None run old status start = started-new None start
+  opened-new (Some (replay names)) run old status start = started-new (Some (replay names)) start
+  opened-new (Some (check settings)) run old status start = started-new (Some (check settings)) start
+  opened-new (Some (drill seed seconds)) run old status start = started-new (Some (drill seed seconds)) start
+  opened-new (Some (study s names)) run old status start = started-new (Some (study s names)) start
+  opened-new (Some (recording names)) run old status opens = pair-new (Some (recording names)) run old status opens
 
   gives-new : (run : Run) (ending : Ending) → Gives run ending mid → Gives run ending new
   gives-new run ending g = record { ends_as = g.ends_as; files = written-new run.writes g.files; answer = ap (λ (s : SlotState). s.bytes) answer-new ∙ g.answer }
@@ -135,10 +154,28 @@ module _ {mid new : RoomState} (only : OnlyAt Note mid new) where
 
 -- ---- the answer
 
+-- the statuses that every command has
+most-all : (asked : Option Asked) (n : ℕ) → n ≤ 8 → n ≤ most_status asked
+most-all None n h = h
+most-all (Some (replay names)) n h = h
+most-all (Some (check settings)) n h = h
+most-all (Some (drill seed seconds)) n h = h
+most-all (Some (study s names)) n h = h
+most-all (Some (recording names)) n h = omega arith
+
+-- and those that `record` has
+most-recording : (asked : Option Asked) (n : ℕ) → IsRecording asked → n ≤ 10 → n ≤ most_status asked
+most-recording None n is h = absurd is
+most-recording (Some (replay names)) n is h = absurd is
+most-recording (Some (check settings)) n is h = absurd is
+most-recording (Some (drill seed seconds)) n is h = absurd is
+most-recording (Some (study s names)) n is h = absurd is
+most-recording (Some (recording names)) n is h = h
+
 module _ (asked : Option Asked) (old mid new : RoomState) (law : Laws new) (only : OnlyAt Note mid new) (later : mid.note.faults ≤ new.note.faults) where
   -- neither a fault nor want of memory ended it
-  completed : (ending : Ending) → status_of ending ≤ 8 → status_of ending ≢ 6 → status_of ending ≢ 7 → Leaves asked old mid ending → Completes asked ending old mid → (IsTrue old.tells → IsNoted (note_of ending) old new) → AnswersTo asked old new (status_of ending)
-  completed ending known not6 not7 work end note = record {
+  completed : (ending : Ending) → status_of ending ≤ most_status asked → status_of ending ≢ 6 → status_of ending ≢ 7 → (status_of ending ≡ 10 → HasSettingsAlone mid) → Leaves asked old mid ending → Completes asked ending old mid → (IsTrue old.tells → IsNoted (note_of ending) old new) → AnswersTo asked old new (status_of ending)
+  completed ending known not6 not7 alone work end note = record {
     known = known;
     usage = end.usage;
     result = λ w. ap status_of (sym (end.gives w.0).ends_as);
@@ -148,20 +185,22 @@ module _ (asked : Option Asked) (old mid new : RoomState) (law : Laws new) (only
     fault = λ e. absurd (not6 e);
     memory = λ e. absurd (not7 e);
     memory_note = λ e. absurd (not7 e);
-    started = λ e. started-new only asked (end.started e);
+    started = λ e. opened-new only asked (run_of asked old.contents) old (status_of ending) (end.started e);
     unstarted = λ not_end _. unstarted-new only (end.unstarted not_end);
+    unopened = λ e. alone-new only (alone e);
     named = named-new only asked work.named;
     unready = λ slot file _ none. (law.unopened slot file none).not_ready;
     later = later-new only old work.later later;
     quiet = λ _. not6;
     complete = λ told e _. inl (ap status_of (sym (end.gives told).ends_as ∙ e));
+    settled = λ told _. inl (ap status_of (sym (end.gives told).ends_as));
   }
 
   faulted : (slot : Slot) → Leaves asked old mid (fault slot) → (IsTrue old.tells → IsNoted (note_of (fault slot)) old new) → AnswersTo asked old new 6
   faulted slot work note =
       let fails = fails-new only asked slot (run_of asked old.contents) old work.end.1 in
       record {
-        known = lit≤ tt;
+        known = most-all asked 6 (lit≤ tt);
         usage = (λ e. cc, λ e. absurd (work.end.0 e));
         result = λ w. absurd (w.1 refl);
         note = λ w. absurd (w.1 refl);
@@ -172,16 +211,18 @@ module _ (asked : Option Asked) (old mid new : RoomState) (law : Laws new) (only
         memory_note = λ e. cc;
         started = λ e. cc;
         unstarted = λ _ not6. absurd (not6 refl);
+        unopened = λ e. cc;
         named = named-new only asked work.named;
         unready = λ s file _ none. (law.unopened s file none).not_ready;
         later = later-new only old work.later later;
         quiet = λ quiet _. quiet slot fails.other fails.rose;
         complete = λ _ _ quiet. absurd (quiet slot fails.other fails.rose);
+        settled = λ _ quiet. absurd (quiet slot fails.other fails.rose);
       }
 
   forgotten : Leaves asked old mid no_memory → (IsTrue old.tells → IsNoted (note_of no_memory) old new) → AnswersTo asked old new 7
   forgotten work note = record {
-    known = lit≤ tt;
+    known = most-all asked 7 (lit≤ tt);
     usage = (λ e. cc, λ e. absurd (some-none work.end.form e));
     result = λ w. absurd (w.2 refl);
     note = λ w. absurd (w.2 refl);
@@ -192,23 +233,27 @@ module _ (asked : Option Asked) (old mid new : RoomState) (law : Laws new) (only
     memory_note = λ _. note;
     started = λ e. cc;
     unstarted = λ _ _. unstarted-new only (alone-unstarted work.end.unopened);
+    unopened = λ e. cc;
     named = named-new only asked work.named;
     unready = λ slot file _ none. (law.unopened slot file none).not_ready;
     later = later-new only old work.later later;
     quiet = λ _ e. cc;
     complete = λ _ _ _. inr (refl, unstarted-new only (alone-unstarted work.end.unopened));
+    settled = λ _ _. inr (refl, unstarted-new only (alone-unstarted work.end.unopened));
   }
     where
       some-none : {o : Option Asked} → IsSome o → o ≡ None → ⊥
       some-none s e = cc
 
   pub answers : (ending : Ending) → Leaves asked old mid ending → (IsTrue old.tells → IsNoted (note_of ending) old new) → AnswersTo asked old new (status_of ending)
-  answers done work note = completed done (lit≤ tt) (λ e. cc) (λ e. cc) work work.end note
-  answers usage work note = completed usage (lit≤ tt) (λ e. cc) (λ e. cc) work work.end note
-  answers (refused number key) work note = completed (refused number key) (lit≤ tt) (λ e. cc) (λ e. cc) work work.end note
-  answers not_capture work note = completed not_capture (lit≤ tt) (λ e. cc) (λ e. cc) work work.end note
-  answers (cut n) work note = completed (cut n) (lit≤ tt) (λ e. cc) (λ e. cc) work work.end note
-  answers (damaged n size) work note = completed (damaged n size) (lit≤ tt) (λ e. cc) (λ e. cc) work work.end note
-  answers (too_long n) work note = completed (too_long n) (lit≤ tt) (λ e. cc) (λ e. cc) work work.end note
+  answers done work note = completed done (most-all asked 0 (lit≤ tt)) (λ e. cc) (λ e. cc) (λ e. cc) work work.end note
+  answers usage work note = completed usage (most-all asked 1 (lit≤ tt)) (λ e. cc) (λ e. cc) (λ e. cc) work work.end note
+  answers (refused number key) work note = completed (refused number key) (most-all asked 2 (lit≤ tt)) (λ e. cc) (λ e. cc) (λ e. cc) work work.end note
+  answers not_capture work note = completed not_capture (most-all asked 3 (lit≤ tt)) (λ e. cc) (λ e. cc) (λ e. cc) work work.end note
+  answers (cut n) work note = completed (cut n) (most-all asked 4 (lit≤ tt)) (λ e. cc) (λ e. cc) (λ e. cc) work work.end note
+  answers (damaged n size) work note = completed (damaged n size) (most-all asked 5 (lit≤ tt)) (λ e. cc) (λ e. cc) (λ e. cc) work work.end note
+  answers (too_long n) work note = completed (too_long n) (most-all asked 8 (lit≤ tt)) (λ e. cc) (λ e. cc) (λ e. cc) work work.end note
   answers (fault slot) work note = faulted slot work note
   answers no_memory work note = forgotten work note
+  answers (no_trip trips) work note = completed (no_trip trips) (most-recording asked 9 work.end.0 (lit≤ tt)) (λ e. cc) (λ e. cc) (λ e. cc) work work.end.1 note
+  answers no_line work note = completed no_line (most-recording asked 10 work.end.0 (lit≤ tt)) (λ e. cc) (λ e. cc) (λ _. work.end.1) work work.end.2 note

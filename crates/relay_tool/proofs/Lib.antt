@@ -15,3 +15,7 @@ pub mod Heading
 pub mod Spelling
 pub mod Counting
 pub mod Drilling
+pub mod Listening
+pub mod Pairing
+pub mod Keeping
+pub mod Naming

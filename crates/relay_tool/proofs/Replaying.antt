@@ -13,11 +13,11 @@ use Rattle.relay_settings.specs.Settings.{PlainSettings}
 use Rattle.relay_settings.specs.declared.types.Settings.{Settings as SettingsRead}
 use Rattle.settings_read.specs.Walk.{Refusal, refused as refusal}
 use Rattle.settings_read.specs.Accepted.{accepted}
-use Rattle.relay_tool.specs.Endings.{Ending, status_of, done, refused, not_capture, cut, damaged, too_long, fault, no_memory}
-use Rattle.relay_tool.specs.Words.{Names, StudyNames, Study, Asked, replay, study, word}
+use Rattle.relay_tool.specs.Endings.{Ending, status_of, done, refused, not_capture, no_line, cut, damaged, too_long, fault, no_memory}
+use Rattle.relay_tool.specs.Words.{Names, StudyNames, Study, Asked, replay, check, drill, study, recording, word}
 use Rattle.relay_tool.specs.Output.{Item, out}
 use Rattle.relay_tool.specs.Run.{Run, Job, replay_job, study_job, refused_run, run_of, job_by, job_run, records_run, content_of, ending_at, all_writes, most_capture}
-use Rattle.relay_tool.specs.Answers.{JobFault, CaptureFault}
+use Rattle.relay_tool.specs.Answers.{JobFault, CaptureFault, IsRecording, HasOpened}
 use Rattle.relay_tool.specs.Files.{IsWritten, IsWrittenFile, AreReady, Reaches, IsUnstarted, HasSettingsAlone, IsStarted, is_slot, is_written, written, front}
 use Rattle.relay_tool.specs.Making.{OnlyUses, Appends, StopsAt, FailsIn, Makes}
 use Rattle.relay_tool.specs.Leaving.{Gives, EndsAs, Leaves}
@@ -64,7 +64,7 @@ read-by asked name {a} {b} {r} is unused law reads =
     apart Note ne = refl
     apart Answer ne = refl
 
-answer-none : {asked : Asked} {a b : RoomState} → Read asked a b → IsTrue a.tells → b.answer.bytes ≡ []
+pub answer-none : {asked : Asked} {a b : RoomState} → Read asked a b → IsTrue a.tells → b.answer.bytes ≡ []
 answer-none read told = ap (λ (s : SlotState). s.bytes) read.stage.answer ∙ read.unused.answer told
 
 pub leaves : (asked : Asked) {a h : RoomState} (ending : Ending) → Staged (Some asked) a h → EndsAs (Some asked) a h ending → Leaves (Some asked) a h ending
@@ -88,6 +88,8 @@ settings-end asked name {a} {b} stops.Fault read refuses end = leaves asked (fau
     capture = λ e. cc;
     accepted = λ _ _. refl;
     header = λ _ _. inl refl;
+    named_line = λ _ _. refl;
+    some_trip = λ _ _ _. inl refl;
   },
 )
 settings-end asked name {a} {b} (stops.Refused number key) read refuses end = leaves asked (refused number key.bytes) read.stage (record {
@@ -118,18 +120,38 @@ not-not_capture Cut n p = cc
 not-not_capture (Damaged size) n p = cc
 not-not_capture TooLong n p = cc
 
+-- a command over a capture looks up no name
+not-no_line : (job : Job) (s : PlainSettings) (o : Option Records) → (records_run job s o).ending ≡ no_line → ⊥
+not-no_line job s None e = cc
+not-no_line job s (Some found) e = stop found.stop e
+  where
+    stop : (x : Stop) → ending_at x (length found.bodies) ≡ no_line → ⊥
+    stop Whole p = cc
+    stop Cut p = cc
+    stop (Damaged size) p = cc
+    stop TooLong p = cc
+
+-- where the command isn't `record`, all its files are open
+pub opened-by : (asked : Asked) → (IsRecording (Some asked) → ⊥) → (run : Run) (old : RoomState) (status : ℕ) {new : RoomState} → IsStarted (Some asked) new → HasOpened (Some asked) run old new status
+opened-by (replay names) other run old status start = start
+opened-by (check name) other run old status start = start
+opened-by (drill seed seconds) other run old status start = start
+opened-by (study s names) other run old status start = start
+opened-by (recording names) other run old status start = absurd (other tt)
+
 -- a command over a capture is asked by its words
 pub record IsJob (asked : Asked) (job : Job) : Type 0 where
   pub settings_word : word asked Settings ≡ Some job.settings
   pub capture_word : word asked Capture ≡ Some job.capture
   pub runs : (contents : List (List ℕ × List ℕ)) → run_of (Some asked) contents ≡ job_run job contents
   pub faults : (old new : RoomState) → JobFault asked job old new → CaptureFault (Some asked) old new
+  pub other : IsRecording (Some asked) → ⊥
 
 pub replay-is : (names : Names) → IsJob (replay names) (replay_job names)
-replay-is names = record { settings_word = refl; capture_word = refl; runs = λ contents. refl; faults = λ old new fault. fault }
+replay-is names = record { settings_word = refl; capture_word = refl; runs = λ contents. refl; faults = λ old new fault. fault; other = λ e. e }
 
 pub study-is : (s : Study) (names : StudyNames) → IsJob (study s names) (study_job s names)
-study-is s names = record { settings_word = refl; capture_word = refl; runs = λ contents. refl; faults = λ old new fault. fault }
+study-is s names = record { settings_word = refl; capture_word = refl; runs = λ contents. refl; faults = λ old new fault. fault; other = λ e. e }
 
 module _ (asked : Asked) (job : Job) (is : IsJob asked job) where
   abbrev Accepts : RoomState → PlainSettings → Type 0
@@ -194,6 +216,8 @@ module _ (asked : Asked) (job : Job) (is : IsJob asked job) where
           capture = λ _. is.faults a d (inl (record { unstarted = unstarted; taken = λ told ready. let t = end.taken (told_b told) ready in (t.0, t.1, sym same ∙ t.2) }));
           accepted = λ told two. absurd (not-refused job s (records (content_of a.contents job.capture) most_capture) (sym (ap (λ (r : Run). status_of r.ending) (run-by a s (by told))) ∙ two));
           header = λ _ _. inr refl;
+          named_line = λ told ten. absurd (not-no_line job s (records (content_of a.contents job.capture) most_capture) (sym (ap (λ (r : Run). r.ending) (run-by a s (by told))) ∙ ten));
+          some_trip = λ _ _ _. inr refl;
         },
       )
 
@@ -271,6 +295,8 @@ module _ (asked : Asked) (job : Job) (is : IsJob asked job) where
       capture = λ e. absurd (streams-capture (subst IsWrittenFile e file));
       accepted = λ told two. absurd (not-refused job s (Some (found feed left)) (sym (ap (λ (r : Run). status_of r.ending) (run-found (known told))) ∙ two));
       header = λ told none. absurd (not-not_capture (found feed left).stop (length (found feed left).bodies) (sym (ap (λ (r : Run). r.ending) (run-found (known told))) ∙ none));
+      named_line = λ told ten. absurd (not-no_line job s (Some (found feed left)) (sym (ap (λ (r : Run). r.ending) (run-found (known told))) ∙ ten));
+      some_trip = λ _ recording _. absurd (is.other recording);
     },
   )
     where
@@ -415,6 +441,8 @@ module _ (asked : Asked) (job : Job) (is : IsJob asked job) where
         }));
         accepted = λ told two. absurd (not-refused job s (Some (found feed g.capture.bytes)) (sym (ap (λ (r : Run). status_of r.ending) (run-found (known_g told))) ∙ two));
         header = λ _ _. inr refl;
+        named_line = λ told ten. absurd (not-no_line job s (Some (found feed g.capture.bytes)) (sym (ap (λ (r : Run). r.ending) (run-found (known_g told))) ∙ ten));
+        some_trip = λ _ _ _. inr refl;
       },
     ))
 
@@ -430,10 +458,10 @@ module _ (asked : Asked) (job : Job) (is : IsJob asked job) where
             (record { ends_as = sym w.ending; files = header-then h (found feed g.capture.bytes).bodies told w.written; answer = answer-still opened.begun.unused stage told })
 
         go : (x : Stopped) → (IsTrue g.tells → StopsAsFound (job.tells s) (found feed g.capture.bytes) g h x) → Leaves (Some asked) a h (ending_of_stop x)
-        go stopped.Whole says = leaves asked done stage (record { usage = (λ e. cc, λ e. cc); gives = gives stopped.Whole says; started = λ _. start; unstarted = λ no. absurd (no refl) })
-        go (stopped.Cut n) says = leaves asked (cut n) stage (record { usage = (λ e. cc, λ e. cc); gives = gives (stopped.Cut n) says; started = λ _. start; unstarted = λ no. absurd (no refl) })
-        go (stopped.Damaged n size) says = leaves asked (damaged n size) stage (record { usage = (λ e. cc, λ e. cc); gives = gives (stopped.Damaged n size) says; started = λ _. start; unstarted = λ no. absurd (no refl) })
-        go (stopped.TooLong n) says = leaves asked (too_long n) stage (record { usage = (λ e. cc, λ e. cc); gives = gives (stopped.TooLong n) says; started = λ _. start; unstarted = λ no. absurd (no refl) })
+        go stopped.Whole says = leaves asked done stage (record { usage = (λ e. cc, λ e. cc); gives = gives stopped.Whole says; started = λ _. opened-by asked is.other (run_of (Some asked) a.contents) a 0 start; unstarted = λ no. absurd (no refl) })
+        go (stopped.Cut n) says = leaves asked (cut n) stage (record { usage = (λ e. cc, λ e. cc); gives = gives (stopped.Cut n) says; started = λ _. opened-by asked is.other (run_of (Some asked) a.contents) a 4 start; unstarted = λ no. absurd (no refl) })
+        go (stopped.Damaged n size) says = leaves asked (damaged n size) stage (record { usage = (λ e. cc, λ e. cc); gives = gives (stopped.Damaged n size) says; started = λ _. opened-by asked is.other (run_of (Some asked) a.contents) a 5 start; unstarted = λ no. absurd (no refl) })
+        go (stopped.TooLong n) says = leaves asked (too_long n) stage (record { usage = (λ e. cc, λ e. cc); gives = gives (stopped.TooLong n) says; started = λ _. opened-by asked is.other (run_of (Some asked) a.contents) a 8 start; unstarted = λ no. absurd (no refl) })
 
     pub stops-end : (h : RoomState) (stop : Stopped) → Runs (job.tells s) (found feed) g h (Ok stop) → Leaves (Some asked) a h (ending_of_stop stop)
     stops-end h stop runs = stop-end h stop (staged-uses (Some asked) refl refl stage_g runs.only) (started-uses (started-uses opened.start made.only) runs.only) runs.stops

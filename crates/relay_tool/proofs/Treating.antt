@@ -39,7 +39,7 @@ pub works-reads : {a b : RoomState} → OnlyAt slots.Capture a b → StaysOpen s
 works-reads only stays later = OnlyUses-at is_worked slots.Capture refl only stays later
 
 -- an output is not the capture
-apart : (slot : Slot) → IsWrittenFile slot → is_slot slots.Capture slot ≡ false
+pub apart : (slot : Slot) → IsWrittenFile slot → is_slot slots.Capture slot ≡ false
 apart slots.Settings e = refl
 apart slots.Capture e = cc
 apart slots.Goose e = refl

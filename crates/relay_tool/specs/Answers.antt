@@ -8,8 +8,8 @@ use Rattle.capture_feed.specs.Records.{Records}
 use Rattle.capture_feed.specs.Captures.{records}
 use Rattle.relay_settings.specs.Settings.{PlainSettings}
 use Rattle.settings_read.specs.Accepted.{accepted}
-use Rattle.relay_tool.specs.Endings.{status_of, note_of, fault, no_memory, not_capture, done}
-use Rattle.relay_tool.specs.Words.{Asked, replay, study, form}
+use Rattle.relay_tool.specs.Endings.{status_of, note_of, fault, no_memory, not_capture, no_line, done}
+use Rattle.relay_tool.specs.Words.{Asked, replay, study, recording, form}
 use Rattle.relay_tool.specs.Run.{Run, Job, replay_job, study_job, run_of, content_of, all_writes, most_capture}
 use Rattle.relay_tool.specs.Files.{IsWritten, Reaches, AreNamed, IsUnstarted, HasSettingsAlone, IsStarted}
 
@@ -47,7 +47,19 @@ JobFault asked job old new = IsFaultAtHeader job old new ⊎ IsFaultAtRecord ask
 abbrev pub CaptureFault : Option Asked → RoomState → RoomState → Type 0
 CaptureFault (Some (replay names)) old new = JobFault (replay names) (replay_job names) old new
 CaptureFault (Some (study s names)) old new = JobFault (study s names) (study_job s names) old new
+-- `record` opens its outputs when the capture was read
+CaptureFault (Some (recording names)) old new = IsUnstarted new
 CaptureFault asked old new = ⊥
+
+-- the words ask for `record`
+abbrev pub IsRecording : Option Asked → Type 0
+IsRecording (Some (recording names)) = Unit {0}
+IsRecording asked = ⊥
+
+-- `record` has two statuses more
+abbrev pub most_status : Option Asked → ℕ
+most_status (Some (recording names)) = 10
+most_status asked = 8
 
 -- a call of this slot failed in the run that this is without faults
 pub record FailsAt (asked : Option Asked) (slot : Slot) (run : Run) (old new : RoomState) : Type 0 where
@@ -61,6 +73,9 @@ pub record FailsAt (asked : Option Asked) (slot : Slot) (run : Run) (old new : R
   -- what comes before the fault in the order of work does not end the run
   pub accepted : IsTrue old.tells → status_of run.ending ≡ 2 → slot ≡ Settings
   pub header : IsTrue old.tells → run.ending ≡ not_capture → (slot ≡ Settings) ⊎ (slot ≡ Capture)
+  pub named_line : IsTrue old.tells → run.ending ≡ no_line → slot ≡ Settings
+  -- `record` opens no output where the line has fewer trips
+  pub some_trip : IsTrue old.tells → IsRecording asked → run.writes ≡ [] → (slot ≡ Settings) ⊎ (slot ≡ Capture)
 
 pub record IsFaulted (asked : Option Asked) (run : Run) (old new : RoomState) : Type 0 where
   pub slot : Slot
@@ -81,13 +96,25 @@ IsQuiet old new = (slot : Slot) → slot ≢ Note → Rose (at old slot).faults 
 abbrev pub IsEnd : ℕ → Type 0
 IsEnd status = list_any (λ s. s == status) (0 ∷ 4 ∷ 5 ∷ 8 ∷ []) ≡ true
 
+-- `record` has opened its outputs by these statuses or has opened none: where the room tells content, exactly where there is something to write
+pub record OpensPair (asked : Option Asked) (run : Run) (old new : RoomState) (status : ℕ) : Type 0 where
+  pub whole : status ≡ 0 → IsStarted asked new
+  pub either : IsStarted asked new ⊎ IsUnstarted new
+  pub written : IsTrue old.tells → run.writes ≢ [] → IsStarted asked new
+  pub unwritten : IsTrue old.tells → run.writes ≡ [] → IsUnstarted new
+
+-- what is open at these statuses
+abbrev pub HasOpened : Option Asked → Run → RoomState → RoomState → ℕ → Type 0
+HasOpened (Some (recording names)) run old new status = OpensPair (Some (recording names)) run old new status
+HasOpened asked run old new status = IsStarted asked new
+
 -- the room tells content, and neither a fault nor want of memory ended the run
 abbrev pub IsWhole : RoomState → ℕ → Type 0
 IsWhole old status = IsTrue old.tells × (status ≢ 6) × (status ≢ 7)
 
 -- what a room is after a run that was asked for this and ended with this status
 pub record AnswersTo (asked : Option Asked) (old new : RoomState) (status : ℕ) : Type 0 where
-  pub known : status ≤ 8
+  pub known : status ≤ most_status asked
   -- the usage status comes exactly at words that are no form
   pub usage : (status ≡ 1) ↔ (asked ≡ None)
   -- where neither a fault nor want of memory ended it, it is the run that the definition gives, whatever counts rose
@@ -99,14 +126,16 @@ pub record AnswersTo (asked : Option Asked) (old new : RoomState) (status : ℕ)
   pub memory : status ≡ 7 → IsOutOfMemory asked old new
   pub memory_note : status ≡ 7 → IsTrue old.tells → IsNoted (note_of no_memory) old new
   -- which files were opened, and by which names
-  pub started : IsEnd status → IsStarted asked new
+  pub started : IsEnd status → HasOpened asked (run_of asked old.contents) old new status
   pub unstarted : (IsEnd status → ⊥) → status ≢ 6 → IsUnstarted new
+  pub unopened : status ≡ 10 → HasSettingsAlone new
   pub named : AreNamed asked new
   pub unready : (slot : Slot) → IsFile slot → IsOutput slot → (at new slot).name ≡ None → (at new slot).is_ready ≡ false
   pub later : (slot : Slot) → (at old slot).faults ≤ (at new slot).faults
   -- without a fault the run is complete, or memory was wanted before an output was opened
   pub quiet : IsQuiet old new → status ≢ 6
   pub complete : IsTrue old.tells → (run_of asked old.contents).ending ≡ done → IsQuiet old new → (status ≡ 0) ⊎ ((status ≡ 7) × IsUnstarted new)
+  pub settled : IsTrue old.tells → IsQuiet old new → (status ≡ status_of (run_of asked old.contents).ending) ⊎ ((status ≡ 7) × IsUnstarted new)
 
 abbrev pub Answers : List (List ℕ) → RoomState → RoomState → ℕ → Type 0
 Answers words = AnswersTo (form words)

@@ -20,6 +20,10 @@ pub data Ending : Type 0 where
   -- a call of this slot failed
   fault : Slot → Ending
   no_memory : Ending
+  -- the capture was used to its end, and the line has so many trips: fewer than asked for
+  no_trip : ℕ → Ending
+  -- no line of the settings has the name
+  no_line : Ending
 
 abbrev pub status_of : Ending → ℕ
 status_of done = 0
@@ -31,6 +35,8 @@ status_of (damaged records size) = 5
 status_of (fault slot) = 6
 status_of no_memory = 7
 status_of (too_long records) = 8
+status_of (no_trip trips) = 9
+status_of no_line = 10
 
 abbrev pub slot_text : Slot → List ℕ
 slot_text Settings = codes "settings"
@@ -44,7 +50,7 @@ slot_text Answer = codes "answer"
 
 abbrev pub note_of : Ending → List ℕ
 note_of done = []
-note_of usage = codes "usage: relay replay SETTINGS CAPTURE GOOSE LOG or check SETTINGS or drill SEED SECONDS or backup SETTINGS CAPTURE LOG CURVE PICKUP TMS or locate SETTINGS CAPTURE LOG or guard SETTINGS CAPTURE LOG FAIL_MS DEAD_MS RECLAIM_MS\n"
+note_of usage = codes "usage: relay replay SETTINGS CAPTURE GOOSE LOG or check SETTINGS or drill SEED SECONDS or backup SETTINGS CAPTURE LOG CURVE PICKUP TMS or locate SETTINGS CAPTURE LOG or guard SETTINGS CAPTURE LOG FAIL_MS DEAD_MS RECLAIM_MS or record SETTINGS CAPTURE LINE K CONFIG DATA\n"
 note_of (refused number key) = codes "settings refused " ++ decimal number ++ codes " " ++ key ++ codes "\n"
 note_of not_capture = codes "not a capture\n"
 note_of (cut records) = codes "capture cut after " ++ decimal records ++ codes " records\n"
@@ -52,3 +58,5 @@ note_of (damaged records size) = codes "capture damaged after " ++ decimal recor
 note_of (fault slot) = codes "fault " ++ slot_text slot ++ codes "\n"
 note_of no_memory = codes "no memory\n"
 note_of (too_long records) = codes "capture too long after " ++ decimal records ++ codes " records\n"
+note_of (no_trip trips) = codes "no such trip, " ++ decimal trips ++ codes " trips\n"
+note_of no_line = codes "no such line\n"

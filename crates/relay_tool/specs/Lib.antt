@@ -17,3 +17,4 @@ pub mod Lines
 pub mod Banks
 pub mod Running
 pub mod Leaving
+pub mod Listening

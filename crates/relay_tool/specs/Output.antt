@@ -27,9 +27,10 @@ use Rattle.fault_locate.specs.LocateLines.{located_told}
 use Rattle.breaker_guard.specs.declared.event.GuardEvent.{GuardEvent}
 use Rattle.breaker_guard.specs.GuardTexts.{guard_text}
 use Rattle.breaker_guard.specs.GuardLines.{guard_told}
+use Rattle.comtrade_write.specs.Recordings.{config_of, data_of}
 use Rattle.relay_tool.specs.Words.{Study, backup, locate, guard}
 use Rattle.room_io.specs.declared.room.Slot.{Slot}
-use Rattle.room_io.specs.declared.room.Slot.TheVariants.{Goose, Log}
+use Rattle.room_io.specs.declared.room.Slot.TheVariants.{Goose, Log, Config, Data}
 
 -- one write of the output, and the name of the line whose part it is
 pub record Item : Type 0 where
@@ -110,6 +111,21 @@ abbrev pub study_items : Study → PlainSettings → Tells
 study_items (backup dial) settings past = backup_items (backup_told settings dial past)
 study_items locate settings past = located_items (located_told settings past)
 study_items (guard times) settings past = guard_items (guard_told settings times past)
+
+-- ---- the record of a trip
+
+-- a line of the record's configuration
+abbrev pub config_item : List ℕ → List ℕ → Item
+config_item name text = record { slot = Config; line = Some name; bytes = text }
+
+-- a line of its data
+abbrev pub data_item : List ℕ → List ℕ → Item
+data_item name text = record { slot = Data; line = Some name; bytes = text }
+
+-- what is written of the record of a line's k-th trip after these sample sets, the newest first: the lines of its configuration,
+-- and then those of its data
+abbrev pub pair_items : Common → PlainLine → ℕ → List PlainAsdu → List Item
+pair_items common line k past = map (config_item line.name) (config_of common line k past) ++ map (data_item line.name) (data_of common line k past)
 
 -- ---- records
 

@@ -1,5 +1,5 @@
 -- What a run without faults and with enough memory does.
-use Rattle.std.specs.Prelude.{ℕ, ◌+◌, ◌^◌, List, [], ◌∷◌, ◌++◌, length, Option, None, Some, unwrap_or, codes, Ok, Err}
+use Rattle.std.specs.Prelude.{ℕ, nat_le, find, if◌then◌else◌, ◌+◌, ◌^◌, List, [], ◌∷◌, ◌++◌, length, Option, None, Some, unwrap_or, codes, Ok, Err}
 use Rattle.std.specs.Fmt.{decimal}
 use Rattle.room_io.specs.Room.{content}
 use Rattle.room_io.specs.declared.room.Slot.TheVariants.{Goose}
@@ -9,10 +9,12 @@ use Rattle.capture_feed.specs.Written.{header_bytes}
 use Rattle.relay_settings.specs.Settings.{PlainLine, PlainSettings}
 use Rattle.settings_read.specs.Walk.{Answer, Refusal}
 use Rattle.settings_read.specs.Accepted.{accepted}
-use Rattle.relay_tool.specs.Endings.{Ending, done, usage, refused, not_capture, cut, damaged, too_long}
-use Rattle.relay_tool.specs.Words.{Names, StudyNames, Study, Asked, replay, check, drill, study}
+use Rattle.std.specs.Str.{bytes_eq}
+use Rattle.comtrade_write.specs.Recordings.{trips_of}
+use Rattle.relay_tool.specs.Endings.{Ending, done, usage, refused, not_capture, cut, damaged, too_long, no_trip, no_line}
+use Rattle.relay_tool.specs.Words.{Names, StudyNames, RecordNames, Study, Asked, replay, check, drill, study, recording}
 use Rattle.relay_tool.specs.Tallies.{drill_summary}
-use Rattle.relay_tool.specs.Output.{Item, Tells, heard_items, study_items, out}
+use Rattle.relay_tool.specs.Output.{Item, Tells, heard_items, study_items, pair_items, heard, out}
 
 pub record Run : Type 0 where
   pub ending : Ending
@@ -91,9 +93,47 @@ content_of contents name = unwrap_or (content contents name) []
 abbrev pub job_run : Job → List (List ℕ × List ℕ) → Run
 job_run job contents = job_by job (accepted (content_of contents job.settings)) (content_of contents job.capture)
 
+-- ---- the record of a trip
+
+-- the line of this name
+abbrev pub line_named : List ℕ → List PlainLine → Option PlainLine
+line_named name lines = find (λ line. bytes_eq line.name name) lines
+
+-- how a run ends where the line has so many trips, fewer than asked for: the trip is missed only at a whole capture
+abbrev pub lacking_at : Stop → ℕ → ℕ → Ending
+lacking_at Whole records trips = no_trip trips
+lacking_at Cut records trips = cut records
+lacking_at (Damaged size) records trips = damaged records size
+lacking_at TooLong records trips = too_long records
+
+-- over these records: the pair where the line has k trips or more, and nothing otherwise
+abbrev pub pair_run : PlainSettings → PlainLine → ℕ → Records → Run
+pair_run settings line k found =
+    if nat_le k (trips_of settings.common line (heard [] found.bodies))
+    then record {
+      ending = ending_at found.stop (length found.bodies);
+      answer = [];
+      writes = pair_items settings.common line k (heard [] found.bodies);
+    }
+    else ended (lacking_at found.stop (length found.bodies) (trips_of settings.common line (heard [] found.bodies)))
+
+abbrev pub line_run : PlainSettings → ℕ → PlainLine → Option Records → Run
+line_run settings k line None = ended not_capture
+line_run settings k line (Some found) = pair_run settings line k found
+
+-- the name is looked up before the capture is opened
+abbrev pub named_run : PlainSettings → ℕ → Option PlainLine → List ℕ → Run
+named_run settings k None capture = ended no_line
+named_run settings k (Some line) capture = line_run settings k line (records capture most_capture)
+
+abbrev pub record_by : RecordNames → Answer PlainSettings → List ℕ → Run
+record_by names (Ok settings) capture = named_run settings names.trip (line_named names.line settings.lines) capture
+record_by names (Err refusal) capture = refused_run refusal
+
 abbrev pub run_of : Option Asked → List (List ℕ × List ℕ) → Run
 run_of None contents = ended usage
 run_of (Some (check settings)) contents = check_by (accepted (content_of contents settings))
 run_of (Some (replay names)) contents = job_run (replay_job names) contents
 run_of (Some (study s names)) contents = job_run (study_job s names) contents
+run_of (Some (recording names)) contents = record_by names (accepted (content_of contents names.settings)) (content_of contents names.capture)
 run_of (Some (drill seed seconds)) contents = record { ending = done; answer = drill_summary seed seconds; writes = [] }

@@ -4,7 +4,7 @@ use Rattle.std.specs.Str.{bytes_eq}
 use Rattle.std.specs.Str.Parse.{digits_value}
 use Rattle.std.specs.Fmt.{decimal}
 use Rattle.room_io.specs.declared.room.Slot.{Slot}
-use Rattle.room_io.specs.declared.room.Slot.TheVariants.{Settings, Capture, Goose, Log}
+use Rattle.room_io.specs.declared.room.Slot.TheVariants.{Settings, Capture, Goose, Log, Config, Data}
 use Rattle.inverse_time.specs.declared.curve.Curve.{Curve}
 use Rattle.inverse_time.specs.declared.curve.Curve.TheVariants.{Very, Extremely}
 use Rattle.inverse_time.specs.declared.curve.Dial.{Dial}
@@ -25,6 +25,16 @@ pub record StudyNames : Type 0 where
   pub capture : List ℕ
   pub log : List ℕ
 
+-- what `record` asks for: its files, a line's name, and which of that line's trips
+pub record RecordNames : Type 0 where
+  pub settings : List ℕ
+  pub capture : List ℕ
+  pub line : List ℕ
+  -- the first trip is 1
+  pub trip : ℕ
+  pub config_file : List ℕ
+  pub data_file : List ℕ
+
 -- A study: what runs over the lines' sample sets in place of the relay, and tells in the log alone.
 pub data Study : Type 0 where
   -- inverse-time overcurrent, on this curve with this pickup and time multiplier setting
@@ -40,6 +50,8 @@ pub data Asked : Type 0 where
   -- by this seed, of so many seconds
   drill : ℕ → ℕ → Asked
   study : Study → StudyNames → Asked
+  -- the record of a line's trip, as a pair of files
+  recording : RecordNames → Asked
 
 -- the word that names a slot's file, where the command has one
 abbrev pub word : Asked → Slot → Option (List ℕ)
@@ -51,6 +63,10 @@ word (check settings) Settings = Some settings
 word (study s names) Settings = Some names.settings
 word (study s names) Capture = Some names.capture
 word (study s names) Log = Some names.log
+word (recording names) Settings = Some names.settings
+word (recording names) Capture = Some names.capture
+word (recording names) Config = Some names.config_file
+word (recording names) Data = Some names.data_file
 word asked slot = None
 
 abbrev pub word_of : Option Asked → Slot → Option (List ℕ)
@@ -72,6 +88,13 @@ are_short_study names = is_short names.settings && (is_short names.capture && is
 
 abbrev pub study_names : List ℕ → List ℕ → List ℕ → StudyNames
 study_names settings capture log = record { settings = settings; capture = capture; log = log }
+
+abbrev pub are_short_record : RecordNames → Bool
+are_short_record names = is_short names.settings && (is_short names.capture && (is_short names.config_file && is_short names.data_file))
+
+abbrev pub record_names : List ℕ → List ℕ → List ℕ → ℕ → List ℕ → List ℕ → RecordNames
+record_names settings capture line trip config_file data_file =
+    record { settings = settings; capture = capture; line = line; trip = trip; config_file = config_file; data_file = data_file }
 
 -- the number that a word spells: in decimal digits, without a sign or a needless leading zero
 abbrev pub spelled : List ℕ → Option ℕ
@@ -102,6 +125,13 @@ abbrev pub studied : StudyNames → Option Study → Option Asked
 studied names None = None
 studied names (Some s) = if are_short_study names then Some (study s names) else None
 
+abbrev pub recorded : RecordNames → Option Asked
+recorded names = if are_short_record names then Some (recording names) else None
+
+abbrev pub recording_of : List ℕ → List ℕ → List ℕ → Option ℕ → List ℕ → List ℕ → Option Asked
+recording_of settings capture line None config_file data_file = None
+recording_of settings capture line (Some trip) config_file data_file = recorded (record_names settings capture line trip config_file data_file)
+
 -- what the words ask for, where they are a form
 abbrev pub form : List (List ℕ) → Option Asked
 form (command ∷ settings ∷ []) = if bytes_eq command (codes "check") && is_short settings then Some (check settings) else None
@@ -114,5 +144,6 @@ form (command ∷ settings ∷ capture ∷ log ∷ x ∷ y ∷ z ∷ []) =
     if bytes_eq command (codes "backup")
     then studied (study_names settings capture log) (backup_of (curve_named x) (within 1 100000000 (spelled y)) (within 25 1500 (spelled z)))
     else if bytes_eq command (codes "guard")
-    then studied (study_names settings capture log) (guard_of (within 1 10000 (spelled x)) (within 1 60000 (spelled y)) (within 1 600000 (spelled z))) else None
+    then studied (study_names settings capture log) (guard_of (within 1 10000 (spelled x)) (within 1 60000 (spelled y)) (within 1 600000 (spelled z)))
+    else if bytes_eq command (codes "record") then recording_of settings capture log (within 1 1000000 (spelled x)) y z else None
 form words = None

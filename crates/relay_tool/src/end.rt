@@ -23,6 +23,10 @@ pub enum End {
     TooLong { records: u64 },
     Fault(Slot),
     NoMemory,
+    /// The capture was used to its end, and the line has so many trips: fewer than asked for.
+    NoTrip { trips: u64 },
+    /// No line of the settings has the name.
+    NoLine,
 }
 
 impl From<NoMemory> for End {
@@ -105,5 +109,7 @@ pub fn status_of(end: &End) -> u8
         End::Fault(_) => 6,
         End::NoMemory => 7,
         End::TooLong { .. } => 8,
+        End::NoTrip { .. } => 9,
+        End::NoLine => 10,
     }
 }

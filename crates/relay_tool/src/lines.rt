@@ -58,7 +58,9 @@ impl Bank for Lines {
     ghost use Rattle.relay_settings.specs.Settings.{PlainSettings};
     ghost use Rattle.station.specs.KeptStation.{frames_of, heard_of};
     ghost use Rattle.relay_tool.specs.Lines.{station_of, TellsAs};
-    ghost use Rattle.relay_tool.specs.Files.{is_written};
+    ghost use Rattle.room_io.specs.declared.room.Slot.TheVariants.{Goose, Log};
+    ghost use Rattle.std.specs.Prelude.{◌||◌};
+    ghost use Rattle.relay_tool.specs.Files.{is_slot};
 
     ghost frames = { λ lines. frames_of (station_of lines) };
 
@@ -66,7 +68,7 @@ impl Bank for Lines {
 
     ghost stands = { TellsAs };
 
-    ghost outputs = { is_written };
+    ghost outputs = { λ slot. is_slot slot Goose || is_slot slot Log };
 
     fn frame_into<'a, L: Ledger>(
         &mut self,

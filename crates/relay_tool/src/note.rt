@@ -1,18 +1,18 @@
 //! The note that tells how a run ended.
 ghost use Rattle.std.specs.Prelude.{◌≡◌, ◌+◌, ◌≤◌, ◌++◌, length, codes};
 ghost use Rattle.std.specs.Fmt.{decimal};
-ghost use Rattle.relay_tool.specs.Endings.{note_of as note_of_ending, slot_text as text_of_slot, refused, cut, damaged, too_long, fault};
+ghost use Rattle.relay_tool.specs.Endings.{note_of as note_of_ending, slot_text as text_of_slot, refused, cut, damaged, too_long, fault, no_trip};
 ghost use Rattle.relay_tool.specs.Ends.{ending_of};
 
 use crate::end::End;
 use arrayvec::ArrayVec;
 use room_io::Slot;
 
-/// A note: at most 288 bytes, ended by a newline where it isn't empty.
-pub type Note = ArrayVec<u8, 288>;
+/// A note: at most 352 bytes, ended by a newline where it isn't empty.
+pub type Note = ArrayVec<u8, 352>;
 
 pub fn append(out: &mut Note, text: &[u8])
-    requires { length out.old.items + length text.now ≤ 288 }
+    requires { length out.old.items + length text.now ≤ 352 }
     ensures bytes { out.new.items ≡ out.old.items ++ text.now }
     ensures long { length out.new.items ≤ length out.old.items + length text.now }
 {
@@ -20,7 +20,7 @@ pub fn append(out: &mut Note, text: &[u8])
 }
 
 pub fn put_number(out: &mut Note, number: u64)
-    requires { length out.old.items + 20 ≤ 288 }
+    requires { length out.old.items + 20 ≤ 352 }
     ensures bytes { out.new.items ≡ out.old.items ++ decimal number }
     ensures long { length out.new.items ≤ length out.old.items + 20 }
 {
@@ -28,7 +28,7 @@ pub fn put_number(out: &mut Note, number: u64)
 }
 
 pub fn text(words: &[u8]) -> Note
-    requires { length words.now ≤ 288 }
+    requires { length words.now ≤ 352 }
     ensures { result.items ≡ words.now }
 {
     let mut note = ArrayVec::new();
@@ -77,6 +77,15 @@ fn too_long(records: u64) -> Note
     note
 }
 
+fn no_trip(trips: u64) -> Note
+    ensures { result.items ≡ note_of_ending (no_trip trips) }
+{
+    let mut note = text(b"no such trip, ");
+    put_number(&mut note, trips);
+    append(&mut note, b" trips\n");
+    note
+}
+
 fn slot_text(slot: Slot) -> &'static [u8]
     ensures text { result.now ≡ text_of_slot slot }
     ensures long { length result.now ≤ 8 }
@@ -109,7 +118,7 @@ pub fn note_of(end: &End) -> Note
     match end {
         End::Done => ArrayVec::new(),
         End::Usage => text(
-            b"usage: relay replay SETTINGS CAPTURE GOOSE LOG or check SETTINGS or drill SEED SECONDS or backup SETTINGS CAPTURE LOG CURVE PICKUP TMS or locate SETTINGS CAPTURE LOG or guard SETTINGS CAPTURE LOG FAIL_MS DEAD_MS RECLAIM_MS\n",
+            b"usage: relay replay SETTINGS CAPTURE GOOSE LOG or check SETTINGS or drill SEED SECONDS or backup SETTINGS CAPTURE LOG CURVE PICKUP TMS or locate SETTINGS CAPTURE LOG or guard SETTINGS CAPTURE LOG FAIL_MS DEAD_MS RECLAIM_MS or record SETTINGS CAPTURE LINE K CONFIG DATA\n",
         ),
         End::Refused { number, key } => refused(*number, key.as_str().as_bytes()),
         End::NotCapture => text(b"not a capture\n"),
@@ -118,5 +127,7 @@ pub fn note_of(end: &End) -> Note
         End::TooLong { records } => too_long(*records),
         End::Fault(slot) => fault(*slot),
         End::NoMemory => text(b"no memory\n"),
+        End::NoTrip { trips } => no_trip(*trips),
+        End::NoLine => text(b"no such line\n"),
     }
 }

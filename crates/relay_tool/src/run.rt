@@ -96,7 +96,7 @@ fn treat<R: Room, B: Bank, L: Ledger>(
 }
 
 /// Where the feed stops behind so many records.
-fn ended_by(stop: FeedStop, records: u64) -> Result<Stopped, Failed>
+pub fn ended_by(stop: FeedStop, records: u64) -> Result<Stopped, Failed>
     ensures { result ≡ halted stop records }
 {
     match stop {

@@ -11,6 +11,7 @@ use crate::check::check;
 use crate::end::{End, status_of};
 use crate::exercise::drill;
 use crate::note::note_of;
+use crate::recording::record;
 use crate::replay::replay;
 use crate::study::study;
 use crate::words::{Command, parse};
@@ -28,7 +29,9 @@ use std::alloc::Global;
 /// - 5: a record's captured length is above 262,144, or a block of a pcapng capture isn't sound;
 /// - 6: a call of the room failed;
 /// - 7: there was not enough memory, before the capture or an output was opened;
-/// - 8: a record was asked for when 2^40 bytes of the capture were taken.
+/// - 8: a record was asked for when 2^40 bytes of the capture were taken;
+/// - 9: the capture was used to its end, and the line has fewer trips than asked for;
+/// - 10: no line of the settings has the name.
 ///
 /// Each status but 0 writes its note.
 pub fn relay<R: Room>(alloc: Global, words: &[String], room: &mut R) -> u8
@@ -61,6 +64,10 @@ fn perform<R: Room>(alloc: Global, words: &[String], room: &mut R) -> End
         },
         Some(Command::Study(asked, files)) => match study(alloc, asked, &files, room) {
             Ok(stopped) => End::from(stopped),
+            Err(end) => end,
+        },
+        Some(Command::Record(words)) => match record(alloc, &words, room) {
+            Ok(end) => end,
             Err(end) => end,
         },
         None => End::Usage,

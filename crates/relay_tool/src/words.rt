@@ -4,8 +4,8 @@ ghost use Rattle.std.specs.Fmt.{decimal};
 ghost use Rattle.std.specs.Str.{bytes_eq};
 ghost use Rattle.std.specs.Option.{option_map};
 ghost use Rattle.std.specs.Option.{ForSome};
-ghost use Rattle.relay_tool.specs.Words.{form, are_short as are_short_names, are_short_study as are_short_study_names, spelled, within, drill_of as drill_asked, backup_of as backup_asked, guard_of as guard_asked, curve_named as curve_by, study_names, studied};
-ghost use Rattle.relay_tool.specs.Asking.{names_of_files, names_of_study, study_of, asked_of, IsInRange, IsStudy};
+ghost use Rattle.relay_tool.specs.Words.{form, are_short as are_short_names, are_short_study as are_short_study_names, are_short_record as are_short_record_names, recorded, recording_of as recording_asked, spelled, within, drill_of as drill_asked, backup_of as backup_asked, guard_of as guard_asked, curve_named as curve_by, study_names, studied};
+ghost use Rattle.relay_tool.specs.Asking.{names_of_files, names_of_study, names_of_record, study_of, asked_of, IsInRange, IsStudy, IsRecord};
 
 use arrayvec::ArrayVec;
 use inverse_time::Curve;
@@ -29,6 +29,17 @@ pub struct StudyFiles<'a> {
     pub settings: &'a str,
     pub capture: &'a str,
     pub log: &'a str,
+}
+
+/// What `record` asks for: its files, the name of a line, and which of that line's trips, of 1 to 1000000.
+#[derive(Clone, Copy)]
+pub struct RecordWords<'a> {
+    pub settings: &'a str,
+    pub capture: &'a str,
+    pub line: &'a str,
+    pub trip: u32,
+    pub config_file: &'a str,
+    pub data_file: &'a str,
 }
 
 /// A study: what runs over the lines' sample sets in place of the relay, and tells in the log alone.
@@ -60,12 +71,14 @@ pub enum Command<'a> {
     /// `drill` by this seed, of 1 to 600 seconds.
     Drill { seed: u64, seconds: u32 },
     Study(Study, StudyFiles<'a>),
+    Record(RecordWords<'a>),
 }
 
 /// What the words ask for, if they are a form: `replay` with four files, `check` with one, `drill` with a seed and
 /// 1 to 600 seconds, `backup` with three files, a curve, a pickup of 1 to 100000000 mA and a time multiplier
-/// setting of 25 to 1500 thousandths, `locate` with three files, or
-/// `guard` with three files and three times in milliseconds. Numbers are in decimal digits, and each file word has at most 1024 bytes.
+/// setting of 25 to 1500 thousandths, `locate` with three files,
+/// `guard` with three files and three times in milliseconds, or `record` with two files, a line's name, a trip of 1 to 1000000 and
+/// two files. Numbers are in decimal digits, and each file word has at most 1024 bytes.
 pub fn parse<'a>(words: &'a [String]) -> Option<Command<'a>>
     ensures value { option_map asked_of result ≡ form (map string_bytes words.now) }
     ensures range { ForSome result IsInRange }
@@ -116,6 +129,15 @@ pub fn parse<'a>(words: &'a [String]) -> Option<Command<'a>>
                 study_on(files, backup_of(x.as_str(), y.as_str(), z.as_str()))
             } else if command.as_str() == "guard" {
                 study_on(files, guard_of(x.as_str(), y.as_str(), z.as_str()))
+            } else if command.as_str() == "record" {
+                record_of(
+                    settings.as_str(),
+                    capture.as_str(),
+                    log.as_str(),
+                    x.as_str(),
+                    y.as_str(),
+                    z.as_str(),
+                )
             } else {
                 None
             }
@@ -161,6 +183,43 @@ fn are_short_study(files: &StudyFiles<'_>) -> bool
     ensures { result ≡ are_short_study_names (names_of_study files.now) }
 {
     files.settings.len() <= LONGEST && files.capture.len() <= LONGEST && files.log.len() <= LONGEST
+}
+
+/// What `record` asks for, where its trip is a number in its range and its file words are short.
+fn record_of<'a>(
+    settings: &'a str,
+    capture: &'a str,
+    line: &'a str,
+    trip: &str,
+    config_file: &'a str,
+    data_file: &'a str,
+) -> Option<Command<'a>>
+    ensures value { option_map asked_of result ≡ recording_asked settings.entry.now capture.entry.now line.entry.now (within 1 1000000 (spelled trip.now)) config_file.entry.now data_file.entry.now }
+    ensures range { ForSome result IsInRange }
+{
+    let trip = number_within(trip, 1, 1_000_000)?;
+    let words = RecordWords {
+        settings,
+        capture,
+        line,
+        trip,
+        config_file,
+        data_file,
+    };
+    if are_short_record(&words) {
+        Some(Command::Record(words))
+    } else {
+        None
+    }
+}
+
+fn are_short_record(words: &RecordWords<'_>) -> bool
+    ensures { result ≡ are_short_record_names (names_of_record words.now) }
+{
+    words.settings.len() <= LONGEST
+        && words.capture.len() <= LONGEST
+        && words.config_file.len() <= LONGEST
+        && words.data_file.len() <= LONGEST
 }
 
 /// What `guard` asks for, where its words are times in their ranges.

@@ -57,7 +57,7 @@ load_block = false
 ";
 
 pub const USAGE: &str =
-    "usage: relay replay SETTINGS CAPTURE GOOSE LOG or check SETTINGS or drill SEED SECONDS or backup SETTINGS CAPTURE LOG CURVE PICKUP TMS or locate SETTINGS CAPTURE LOG or guard SETTINGS CAPTURE LOG FAIL_MS DEAD_MS RECLAIM_MS\n";
+    "usage: relay replay SETTINGS CAPTURE GOOSE LOG or check SETTINGS or drill SEED SECONDS or backup SETTINGS CAPTURE LOG CURVE PICKUP TMS or locate SETTINGS CAPTURE LOG or guard SETTINGS CAPTURE LOG FAIL_MS DEAD_MS RECLAIM_MS or record SETTINGS CAPTURE LINE K CONFIG DATA\n";
 
 static ROWS: [Row; 13] = [
     (&CHECK, "", "", 0, "ok 1 lines 0 zones\n", ""),

@@ -38,7 +38,7 @@ returns-in_err-put g c =
     let stands = subst (λ (s : PlainSettings). StandsFor s [] c.in_ok-station.station) c.in_ok-settings.ensures.value c.in_ok-station.ensures.0 in
     let text = drill-text c.args.seed c.args.seconds c.run_plan-counted.result.0 c.run_plan-counted.result.1 (frames_left c.of-plan.result) c.as_slice.result.now
     c.of-plan.ensures c.run_plan-counted.ensures.frames (c.run_plan-counted.ensures.counts drill_settings stands) (c.as_slice.ensures.value ∙ c.summary_of-answer.ensures) in
-    rw (p.1, p.2) (answer-fault (drill c.args.seed c.args.seconds) _ c.as_slice.result.now (drill-read c.args.seed c.args.seconds c.requires.unused (record { unopened = g.met.R.Room.unopened c.args.room.now }))
+    rw (p.1, p.2) (answer-fault (drill c.args.seed c.args.seconds) (λ e. e) _ c.as_slice.result.now (drill-read c.args.seed c.args.seconds c.requires.unused (record { unopened = g.met.R.Room.unopened c.args.room.now }))
     (λ told. ap answered (sym text)) c.in_err-put.field-0.0 c.in_err-put.ensures)
 
 pub returns : goal.returns
@@ -46,5 +46,5 @@ returns g c =
     let stands = subst (λ (s : PlainSettings). StandsFor s [] c.in_ok-station.station) c.in_ok-settings.ensures.value c.in_ok-station.ensures.0 in
     let text = drill-text c.args.seed c.args.seconds c.run_plan-counted.result.0 c.run_plan-counted.result.1 (frames_left c.of-plan.result) c.as_slice.result.now
     c.of-plan.ensures c.run_plan-counted.ensures.frames (c.run_plan-counted.ensures.counts drill_settings stands) (c.as_slice.ensures.value ∙ c.summary_of-answer.ensures) in
-    answer-done (drill c.args.seed c.args.seconds) _ c.as_slice.result.now (drill-read c.args.seed c.args.seconds c.requires.unused (record { unopened = g.met.R.Room.unopened c.args.room.now }))
+    answer-done (drill c.args.seed c.args.seconds) (λ e. e) _ c.as_slice.result.now (drill-read c.args.seed c.args.seconds c.requires.unused (record { unopened = g.met.R.Room.unopened c.args.room.now }))
     (λ told. ap answered (sym text)) (drill-started c.args.seed c.args.seconds c.requires.unused) c.in_ok-put.ensures

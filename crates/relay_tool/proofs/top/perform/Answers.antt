@@ -17,3 +17,6 @@ study-requires-clause-numbers g c = (subst (λ (x : Command). IsInRange x) c.in-
 
 pub study-requires-clause-short : goal.study-requires-clause-short
 study-requires-clause-short g c = (subst (λ (x : Command). IsInRange x) c.in-Some-Study.field-0-is (c.in-Some-Study.ensures.range _ refl)).1
+
+pub record-requires-clause-numbers : goal.record-requires-clause-numbers
+record-requires-clause-numbers g c = subst (λ (x : Command). IsInRange x) c.in-Some-Record.field-0-is (c.in-Some-Record.ensures.range _ refl)
