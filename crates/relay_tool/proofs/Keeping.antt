@@ -1,10 +1,10 @@
 -- The ends of `record`.
-use Rattle.std.proofs.Common.{◌≡◌, ◌≢◌, ◌∙◌, inl, inr, ℕ, zero, suc, ◌+◌, ◌<◌, ◌≤◌, Bool, true, false, IsTrue, List, [], ◌∷◌, ◌++◌, length, map, refl, sym, ap, subst, arith, length-append}
+use Rattle.std.proofs.Common.{◌≡◌, ◌≢◌, ◌∙◌, inl, inr, ℕ, zero, suc, ◌<◌, Bool, true, false, IsTrue, List, [], ◌++◌, length, map, refl, sym, ap, subst, arith, length-append}
 use Rattle.std.specs.Prelude.{Option, None, Some, Result, Ok, Err, is_some, nat_le, if◌then◌else◌}
 use Rattle.std.proofs.lemmas.Bool.{cases_Bool}
 use Rattle.std.proofs.lemmas.Bool.Decides.{nat_tests}
 use Rattle.std.proofs.lemmas.List.{length-map}
-use Rattle.room_io.specs.Room.{RoomState, SlotState, at, Rose, OnlyAt, StaysOpen, IsFile, IsUnused}
+use Rattle.room_io.specs.Room.{RoomState, SlotState, at, Rose, OnlyAt, IsFile, IsUnused}
 use Rattle.room_io.specs.declared.room.Slot.{Slot}
 use Rattle.room_io.specs.declared.room.Slot.TheVariants.{Settings, Capture, Goose, Log, Config, Data, Note, Answer}
 use Rattle.capture_feed.specs.Records.{Records, Stop, Whole, Damaged, Cut, TooLong}
@@ -19,16 +19,16 @@ use Rattle.sv_frame.specs.Asdu.{PlainAsdu}
 use Rattle.comtrade_write.specs.Recordings.{trips_of, covered_of, config_of, data_of}
 use Rattle.relay_tool.specs.Endings.{Ending, status_of, done, not_capture, cut, damaged, too_long, fault, no_trip, no_line}
 use Rattle.relay_tool.specs.Ends.{lacking_end}
-use Rattle.relay_tool.specs.Words.{RecordNames, Asked, recording, word}
+use Rattle.relay_tool.specs.Words.{RecordNames, recording, word}
 use Rattle.relay_tool.specs.Output.{Item, config_item, data_item, pair_items, heard}
 use Rattle.relay_tool.specs.Run.{Run, ended, refused_run, run_of, record_by, named_run, line_run, pair_run, line_named, lacking_at, content_of, ending_at, most_capture}
 use Rattle.relay_tool.specs.Answers.{OpensPair}
 use Rattle.relay_tool.specs.Files.{IsWritten, IsWrittenFile, AreReady, Reaches, IsUnstarted, IsStarted, is_slot, written, front}
-use Rattle.relay_tool.specs.Making.{is_worked, OnlyWrites, Appends, StopsAt, FailsIn, Makes}
-use Rattle.relay_tool.specs.Leaving.{Gives, Completes, Leaves}
+use Rattle.relay_tool.specs.Making.{OnlyWrites, Appends, FailsIn}
+use Rattle.relay_tool.specs.Leaving.{Gives, Leaves}
 use Rattle.relay_tool.specs.Opening.{OpensCapture, CaptureEnd, capture_ending, OpensOutput}
 use Rattle.relay_tool.specs.Running.{ending_of_stop}
-use Rattle.relay_tool.specs.Listening.{HeardAsFound, Listens}
+use Rattle.relay_tool.specs.Listening.{Listens}
 use Rattle.relay_tool.specs.declared.files.CaptureStop.{CaptureStop}
 use Rattle.relay_tool.specs.declared.files.CaptureStop.TheVariants as captures
 use Rattle.relay_tool.specs.declared.put.Failed.{Failed}

@@ -2,7 +2,7 @@
 use Rattle.std.proofs.Common.{◌≡◌, ℕ, ◌+◌, ◌≤◌, IsTrue, List, [], ◌∷◌, ◌++◌, length, reverse, refl, sym, ◌∙◌, ap, subst, arith, append_assoc, append-nil, length-append}
 use Rattle.room_io.specs.Room.{RoomState, Rose, OnlyAt, StaysOpen}
 use Rattle.room_io.specs.declared.room.Slot.TheVariants as slots
-use Rattle.capture_feed.specs.Records.{Records, Stop, Damaged, Cut, TooLong, add, stopped}
+use Rattle.capture_feed.specs.Records.{Records, Stop, Damaged, Cut, TooLong, stopped}
 use Rattle.capture_feed.specs.declared.stop.FeedStop.{FeedStop}
 use Rattle.capture_feed.specs.declared.stop.FeedStop.TheVariants as stops
 use Rattle.capture_feed.specs.Answers.{Gives, StopsAs}

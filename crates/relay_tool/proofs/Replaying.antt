@@ -1,5 +1,5 @@
 -- The ends of a command over a capture, and of what it shares with other commands.
-use Rattle.std.proofs.Common.{◌≡◌, ◌≢◌, ◌∙◌, inl, inr, ℕ, Bool, false, IsTrue, List, [], ◌∷◌, ◌++◌, length, refl, sym, ap, subst, arith, append_assoc, append-nil, length-append}
+use Rattle.std.proofs.Common.{◌≡◌, ◌≢◌, ◌∙◌, inl, inr, ℕ, Bool, false, IsTrue, List, [], ◌++◌, length, refl, sym, ap, subst, arith, append_assoc, append-nil, length-append}
 use Rattle.std.specs.Prelude.{Option, None, Some, Result, Ok, Err, is_some}
 use Rattle.std.proofs.lemmas.Bool.{cases_Bool}
 use Rattle.room_io.specs.Room.{RoomState, SlotState, at, Rose, IsFile, IsUnused}

@@ -1,6 +1,6 @@
 -- What a study's bank tells of a sample set, written.
 use Rattle.std.proofs.Common.{◌≡◌, ◌∙◌, ℕ, ◌<◌, List, [], ◌∷◌, length, map, get_or, sym, ap, subst}
-use Rattle.std.specs.Prelude.{Result, Option, None, Some}
+use Rattle.std.specs.Prelude.{Result, Option, None}
 use Rattle.std.specs.Option.{option_map}
 use Rattle.std.proofs.lemmas.List.{get_or-map}
 use Rattle.room_io.specs.Room.{RoomState}
@@ -23,7 +23,7 @@ use Rattle.breaker_guard.specs.Guarding.{listed}
 use Rattle.breaker_guard.specs.GuardLines.{tells_by as guards_by}
 use Rattle.breaker_guard.specs.KeptGuards.{IsTold as IsGuarded}
 use Rattle.relay_tool.specs.Words.{backup, locate, guard}
-use Rattle.relay_tool.specs.Output.{Item, backup_item, backup_items, some_located, located_items, guard_item, guard_items, study_items}
+use Rattle.relay_tool.specs.Output.{backup_item, backup_items, some_located, located_items, guard_item, guard_items, study_items}
 use Rattle.relay_tool.specs.Making.{Makes}
 use Rattle.relay_tool.specs.declared.put.Failed.{Failed}
 

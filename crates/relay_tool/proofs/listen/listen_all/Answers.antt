@@ -1,4 +1,4 @@
-use Rattle.std.proofs.Common.{◌+◌, ◌∙◌, ◌≤◌, refl, sym, subst, ap, arith}
+use Rattle.std.proofs.Common.{◌∙◌, refl, sym, subst, arith}
 use Rattle.std.specs.Prelude.{Result}
 use Rattle.room_io.specs.declared.room.Slot.TheVariants.{Capture}
 use Rattle.room_io.proofs.Rooms.{OnlyAt-refl, OnlyAt-trans, StaysOpen-refl, StaysOpen-trans}

@@ -1,4 +1,4 @@
-use Rattle.std.proofs.Common.{◌≡◌, ◌*◌, ◌-◌, ◌≤◌, IsTrue, ℕ, []}
+use Rattle.std.proofs.Common.{◌*◌, ◌-◌, ◌≤◌, IsTrue, ℕ, []}
 use Rattle.room_io.specs.Room.{IsReadyIn, OnlyAt, StaysOpen}
 use Rattle.room_io.specs.declared.room.Slot.TheVariants.{Capture}
 use Rattle.capture_feed.specs.Left.{found, is_live, taken_by, limit_of}

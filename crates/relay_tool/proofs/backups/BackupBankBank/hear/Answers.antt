@@ -1,4 +1,4 @@
-use Rattle.std.proofs.Common.{◌∷◌, ◌∙◌, ◌<◌, refl, sym, subst, ap, arith, length, List}
+use Rattle.std.proofs.Common.{◌∷◌, ◌∙◌, ◌<◌, refl, sym, subst, arith, length, List}
 use Rattle.std.specs.Prelude.{Ok}
 use Rattle.sv_frame.specs.Asdu.{plain_asdu}
 use Rattle.room_io.specs.declared.room.Slot.TheVariants.{Log}

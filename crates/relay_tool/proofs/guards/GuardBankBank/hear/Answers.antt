@@ -1,5 +1,5 @@
-use Rattle.std.proofs.Common.{◌∷◌, ◌∙◌, ◌<◌, refl, sym, subst, ap, arith, length, map, List}
-use Rattle.std.specs.Prelude.{Ok, Some, None, Option}
+use Rattle.std.proofs.Common.{◌∷◌, ◌∙◌, ◌<◌, refl, sym, subst, arith, length, map, List}
+use Rattle.std.specs.Prelude.{Ok, Some, Option}
 use Rattle.sv_frame.specs.Asdu.{plain_asdu}
 use Rattle.room_io.specs.declared.room.Slot.TheVariants.{Log}
 use Rattle.relay_settings.specs.Settings.{plain_settings}
