@@ -13,7 +13,7 @@ use std::test::Fail;
 use sv_frame::Asdu;
 
 /// One line at 4800 samples a second and 50 Hz, with one zone that trips at once.
-const SETTINGS: &str = "version = 1
+pub const SETTINGS: &str = "version = 1
 start = \"2024-01-01T00:00:00Z\"
 rate = 4800
 nominal = 50
@@ -70,7 +70,7 @@ fn sine(scale: i32, number: u32) -> i32 {
 
 /// The 64 bytes of the data set: three voltages of 500 times the sine table and no current; in a fault of phase A to
 /// ground, UA falls to a half, and IA lags it by a quarter of a cycle.
-fn data_of(alloc: Global, number: u32, is_fault: bool) -> Result<Vec<u8>, AllocError> {
+pub fn data_of(alloc: Global, number: u32, is_fault: bool) -> Result<Vec<u8>, AllocError> {
     let (ia, ua) = if is_fault { (250, 250) } else { (0, 500) };
     let channels = [
         sine(ia, number),

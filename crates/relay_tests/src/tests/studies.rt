@@ -234,69 +234,42 @@ fn a_study_writes_its_log_alone(rt: HostRuntime) -> Result<(), Fail> {
 /// The fault, ten missing samples, and the fault again: the phase starts at 95, drops at 130 and starts at 225.
 const BROKEN: [Span; 2] = [(0, 120, Signal::Fault), (130, 230, Signal::Fault)];
 
-/// A slot, the note of its fault, and how many lines of the log stand when its first, second and so on call fails.
+const LINES: [&str; 3] = [
+    "L1 2024-01-01T00:00:00.019791666Z 95 backup A start\n",
+    "L1 2024-01-01T00:00:00.027083333Z 130 backup A drop\n",
+    "L1 2024-01-01T00:00:00.046875000Z 225 backup A start\n",
+];
+
+/// A slot, the note of its fault, and how many of these lines stand when its first, second and so on call fails.
 /// There is no further call. Reads come in pieces of 3000 bytes, and a record has 132 behind a header of 24.
 type Case = (Slot, &'static str, &'static [usize]);
 
-/// A study's words, the lines of its log, and its cases.
-type Failing = (
-    &'static [&'static str],
-    &'static [&'static str],
-    &'static [Case],
-);
-
-static FAILING: [Failing; 2] = [
+static CASES: [Case; 6] = [
+    (Slot::Settings, "fault settings\n", &[0, 0, 0]),
     (
-        &["backup", "s.toml", "c.pcap", "l", "very", "1000000", "50"],
-        &[
-            "L1 2024-01-01T00:00:00.019791666Z 95 backup A start\n",
-            "L1 2024-01-01T00:00:00.027083333Z 130 backup A drop\n",
-            "L1 2024-01-01T00:00:00.046875000Z 225 backup A start\n",
-        ],
-        &[
-            (Slot::Settings, "fault settings\n", &[0, 0, 0]),
-            (
-                Slot::Capture,
-                "fault capture\n",
-                &[0, 0, 0, 0, 0, 0, 1, 2, 2, 2, 2, 3],
-            ),
-            (Slot::Log, "fault log\n", &[0, 0, 1, 2]),
-            // No call comes on these.
-            (Slot::Goose, "", &[]),
-            (Slot::Note, "", &[]),
-            (Slot::Answer, "", &[]),
-        ],
+        Slot::Capture,
+        "fault capture\n",
+        &[0, 0, 0, 0, 0, 0, 1, 2, 2, 2, 2, 3],
     ),
-    // The trip rises at 95, and the current still flows a millisecond later.
-    (
-        &["guard", "s.toml", "c.pcap", "l", "1", "50", "1000"],
-        &["L1 2024-01-01T00:00:00.020833333Z 100 guard fail\n"],
-        &[
-            (Slot::Settings, "fault settings\n", &[0, 0, 0]),
-            (
-                Slot::Capture,
-                "fault capture\n",
-                &[0, 0, 0, 0, 0, 0, 1, 1, 1, 1, 1, 1],
-            ),
-            (Slot::Log, "fault log\n", &[0, 0]),
-            (Slot::Goose, "", &[]),
-            (Slot::Note, "", &[]),
-            (Slot::Answer, "", &[]),
-        ],
-    ),
+    (Slot::Log, "fault log\n", &[0, 0, 1, 2]),
+    // No call comes on these.
+    (Slot::Goose, "", &[]),
+    (Slot::Note, "", &[]),
+    (Slot::Answer, "", &[]),
 ];
 
 /// Runs the study with this call failing, if there is such a call.
 fn run_failing(
     alloc: Global,
-    words: &[&str],
     capture: &[u8],
     slot: Slot,
     call: u64,
 ) -> Result<(u8, MemRoom), Fail> {
-    let words = words_of(alloc, words)?;
-    let settings = settings_with(alloc, GO_ID, ZONE)?;
-    let mut room = room_of(alloc, settings.as_bytes(), capture)?;
+    let words = words_of(
+        alloc,
+        &["backup", "s.toml", "c.pcap", "l", "very", "1000000", "50"],
+    )?;
+    let mut room = room_of(alloc, SETTINGS.as_bytes(), capture)?;
     room.pieces(3000);
     room.fail(slot, call)?;
     let status = relay(alloc, &words, &mut room);
@@ -304,9 +277,9 @@ fn run_failing(
 }
 
 /// The first of these lines, so many.
-fn front_of(alloc: Global, lines: &[&str], count: usize) -> Result<Vec<u8>, Fail> {
+fn front_of(alloc: Global, count: usize) -> Result<Vec<u8>, Fail> {
     let mut text = Vec::new(alloc);
-    for line in lines.get(..count).unwrap_or(&[]) {
+    for line in LINES.get(..count).unwrap_or(&[]) {
         text.extend_from_slice(line.as_bytes())?;
     }
     Ok(text)
@@ -316,36 +289,30 @@ fn front_of(alloc: Global, lines: &[&str], count: usize) -> Result<Vec<u8>, Fail
 fn each_failing_call_ends_the_study(rt: HostRuntime) -> Result<(), Fail> {
     let alloc = rt.alloc();
     let capture = signals_of(alloc, &LITTLE_MICROS, &SINGLE, &BROKEN)?;
-    for (words, lines, cases) in &FAILING {
-        for (slot, note, standing) in *cases {
-            let mut call: u64 = 1;
-            for count in *standing {
-                let (status, room) = run_failing(alloc, words, &capture, *slot, call)?;
-                assert_eq!(rt; status, 6, "{words:?} {slot:?} {call}");
-                assert_eq!(rt; room.faults(*slot), 1, "{words:?} {slot:?} {call}");
-                assert_eq!(rt;
-                    room.written(Slot::Note),
-                    note.as_bytes(),
-                    "{words:?} {slot:?} {call}"
-                );
-                let front = front_of(alloc, lines, *count)?;
-                assert_eq!(rt;
-                    room.written(Slot::Log),
-                    front.as_slice(),
-                    "{words:?} {slot:?} {call}"
-                );
-                call = call.wrapping_add(1);
-            }
-            let (status, room) = run_failing(alloc, words, &capture, *slot, call)?;
-            assert_eq!(rt; status, 0, "{words:?} {slot:?}");
-            assert_eq!(rt; room.faults(*slot), 0, "{words:?} {slot:?}");
-            let whole = front_of(alloc, lines, lines.len())?;
+    for (slot, note, standing) in &CASES {
+        let mut call: u64 = 1;
+        for lines in *standing {
+            let (status, room) = run_failing(alloc, &capture, *slot, call)?;
+            assert_eq!(rt; status, 6, "{slot:?} {call}");
+            assert_eq!(rt; room.faults(*slot), 1, "{slot:?} {call}");
+            assert_eq!(rt;
+                room.written(Slot::Note),
+                note.as_bytes(),
+                "{slot:?} {call}"
+            );
+            let front = front_of(alloc, *lines)?;
             assert_eq!(rt;
                 room.written(Slot::Log),
-                whole.as_slice(),
-                "{words:?} {slot:?}"
+                front.as_slice(),
+                "{slot:?} {call}"
             );
+            call = call.wrapping_add(1);
         }
+        let (status, room) = run_failing(alloc, &capture, *slot, call)?;
+        assert_eq!(rt; status, 0, "{slot:?}");
+        assert_eq!(rt; room.faults(*slot), 0, "{slot:?}");
+        let whole = front_of(alloc, 3)?;
+        assert_eq!(rt; room.written(Slot::Log), whole.as_slice(), "{slot:?}");
     }
     Ok(())
 }
