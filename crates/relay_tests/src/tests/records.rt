@@ -177,15 +177,11 @@ fn without_the_trip_no_output_is_opened(rt: HostRuntime) -> Result<(), Fail> {
     for (words, want, note) in &ROWS {
         let words = words_of(alloc, words)?;
         let mut room = room_with(alloc, SPACE, settings.as_bytes(), &capture)?;
-        for slot in [
-            Slot::Goose,
-            Slot::Log,
-            Slot::Config,
-            Slot::Data,
-            Slot::Answer,
-        ] {
-            room.fail(slot, 1)?;
-        }
+        room.fail(Slot::Goose, 1)?;
+        room.fail(Slot::Log, 1)?;
+        room.fail(Slot::Config, 1)?;
+        room.fail(Slot::Data, 1)?;
+        room.fail(Slot::Answer, 1)?;
         let status = relay(alloc, &words, &mut room);
         assert_eq!(rt; status, *want, "{words:?}");
         assert_eq!(rt; room.written(Slot::Note), note.as_bytes(), "{words:?}");
@@ -259,8 +255,8 @@ fn each_failing_call_ends_the_record(rt: HostRuntime) -> Result<(), Fail> {
         )
     );
     for (slot, note, calls) in &CASES {
-        let mut call: u64 = 1;
-        while call <= *calls {
+        for before in 0..*calls {
+            let call = before.wrapping_add(1);
             let (status, room) = run_failing(alloc, &settings, &capture, *slot, call)?;
             assert_eq!(rt; (status, room.faults(*slot)), (6, 1), "{slot:?} {call}");
             assert_eq!(rt;
@@ -279,9 +275,9 @@ fn each_failing_call_ends_the_record(rt: HostRuntime) -> Result<(), Fail> {
                 front_of(whole.written(Slot::Data), values),
                 "{slot:?} {call}"
             );
-            call = call.wrapping_add(1);
         }
-        let (status, room) = run_failing(alloc, &settings, &capture, *slot, call)?;
+        let beyond = calls.wrapping_add(1);
+        let (status, room) = run_failing(alloc, &settings, &capture, *slot, beyond)?;
         assert_eq!(rt; (status, room.faults(*slot)), (0, 0), "{slot:?}");
         assert_eq!(rt;
             room.written(Slot::Config),
