@@ -1,9 +1,11 @@
 -- Sizes at a quadrilateral, and what the code holds of its settings.
-use Rattle.std.proofs.Common.{◌≡◌, ◌+◌, ◌*◌, ◌^◌, ◌<◌, ◌≤◌, ◌≤ℤ◌, ℕ, ℤ, pos, neg_ℤ, ◌-ℤ◌, ◌+ℤ◌, ◌*ℤ◌, FitsSigned, to_z, of_z, to_z-of_z, ap, ◌∙◌, arith, lit≤, unsigned_abs, refl, sym}
+use Rattle.std.proofs.Common.{leb, le-leb, inl, inr, zero, suc, ◌&&◌, ◌≡◌, ◌+◌, ◌*◌, ◌^◌, ◌<◌, ◌≤◌, ◌≤ℤ◌, ℕ, ℤ, pos, negsuc, neg_ℤ, ◌-ℤ◌, ◌+ℤ◌, ◌*ℤ◌, FitsSigned, to_z, of_z, to_z-of_z, ap, ◌∙◌, arith, lit≤, unsigned_abs, refl, sym}
 use Rattle.std.specs.Int.{w64, w128}
+use Rattle.std.specs.Int.RustNames.{int_le}
+use Rattle.std.proofs.lemmas.Bool.{cases_lt, lt-leb}
 use Rattle.relay_num.specs.declared.Cx.{Cx}
 use Rattle.relay_num.specs.Numbers.{IsBelow, conjugate, scaled, norm, opposite}
-use Rattle.relay_num.proofs.Signed.{signed, size-product, size-sum, one_part}
+use Rattle.relay_num.proofs.Signed.{signed, size-product, size-sum, size-difference, one_part}
 use Rattle.relay_num.proofs.Ring.{mul_comm, mul-neg}
 use Rattle.relay_num.proofs.Wide.{held, IsBelow-product, IsBelow-weaker, IsBelow-conjugate, size-norm, fits_128}
 use Rattle.relay_settings.specs.declared.types.QuadSettings.{QuadSettings}
@@ -41,23 +43,21 @@ apparent_below u i h k =
 pub norm_below : (i : Cx) → IsBelow i (2 ^ 45) → unsigned_abs (norm i) < 2 ^ 96
 norm_below i h = omega (arith, size-norm i (2 ^ 45) h)
 
+square_is : (a : ℤ) → a *ℤ a ≡ pos (unsigned_abs a * unsigned_abs a)
+square_is (pos n) = refl
+square_is (negsuc n) = refl
+
+pub norm_sign : (i : Cx) → pos 0 ≤ℤ norm i
+norm_sign i = rw (square_is i.re, square_is i.im) (omega (arith, signed))
+
 pub held_setting : (k : ℤ) → unsigned_abs k ≤ 1000000 → to_z w64 (of_z w64 k) ≡ k
 held_setting k h = omega (arith, signed)
-
-pub held_minus : (k : ℤ) → unsigned_abs k ≤ 1000000 → to_z w64 (of_z w64 (pos 0 -ℤ to_z w64 (of_z w64 k))) ≡ neg_ℤ k
-held_minus k h = omega (arith, signed)
 
 pub held_thousand : (k : ℤ) → unsigned_abs k ≤ 1000000 → to_z w64 (of_z w64 (pos 1000 *ℤ to_z w64 (of_z w64 k))) ≡ pos 1000 *ℤ k
 held_thousand k h = omega (arith, signed)
 
 pub thousand_below : (k : ℤ) → unsigned_abs k ≤ 1000000 → unsigned_abs (pos 1000 *ℤ k) < 2 ^ 30
 thousand_below k h = omega (arith, size-product (pos 1000) k 1001 1000001 (omega arith) (omega arith))
-
-pub size-neg : (k : ℤ) (m : ℕ) → unsigned_abs k ≤ m → unsigned_abs (neg_ℤ k) ≤ m
-size-neg k m h = omega (arith, signed)
-
-pub plus_minus : (a k y : ℤ) → a +ℤ neg_ℤ k *ℤ y ≡ a -ℤ k *ℤ y
-plus_minus a k y = ap (λ t. a +ℤ t) (mul_comm (neg_ℤ k) y ∙ mul-neg y k ∙ ap neg_ℤ (mul_comm y k))
 
 pub minus_product : (k s : ℤ) → neg_ℤ (k *ℤ s) ≡ neg_ℤ k *ℤ s
 minus_product k s = ap neg_ℤ (mul_comm k s) ∙ sym (mul-neg s k) ∙ mul_comm s (neg_ℤ k)
@@ -80,6 +80,36 @@ tilted x k y a b c =
     let fr : FitsSigned w128 (k *ℤ y) = fits_128 _ _ right (lit≤ tt) in
     let f : FitsSigned w128 (pos 1000 *ℤ x +ℤ k *ℤ y) = fits_128 _ _ (size-sum (pos 1000 *ℤ x) (k *ℤ y) _ _ left right) (lit≤ tt) in
     record { fits = simp to_z-of_z f; is = simp to_z-of_z }
+
+pub record Leaned (x k y : ℤ) : Type 0 where
+  pub fits : FitsSigned w128 (held (pos 1000 *ℤ held x) -ℤ held (held k *ℤ held y))
+  pub is : held (held (pos 1000 *ℤ held x) -ℤ held (held k *ℤ held y)) ≡ pos 1000 *ℤ x -ℤ k *ℤ y
+
+pub leaned : (x k y : ℤ) → unsigned_abs x < 2 ^ 110 → unsigned_abs k ≤ 1000 → unsigned_abs y < 2 ^ 110 → Leaned x k y
+leaned x k y a b c =
+    let left = size-product (pos 1000) x 1001 (2 ^ 110) (omega arith) a in
+    let right = size-product k y 1001 (2 ^ 110) (omega arith) c in
+    let fx : FitsSigned w128 x = fits_128 x (2 ^ 110) a (lit≤ tt) in
+    let fk : FitsSigned w128 k = fits_128 k (2 ^ 20) (omega arith) (lit≤ tt) in
+    let fy : FitsSigned w128 y = fits_128 y (2 ^ 110) c (lit≤ tt) in
+    let fl : FitsSigned w128 (pos 1000 *ℤ x) = fits_128 _ _ left (lit≤ tt) in
+    let fr : FitsSigned w128 (k *ℤ y) = fits_128 _ _ right (lit≤ tt) in
+    let f : FitsSigned w128 (pos 1000 *ℤ x -ℤ k *ℤ y) = fits_128 _ _ (size-difference (pos 1000 *ℤ x) (k *ℤ y) _ _ left right) (lit≤ tt) in
+    record { fits = simp to_z-of_z f; is = simp to_z-of_z }
+
+-- a size is at most m exactly where the number is from -m to m
+within_is : (z : ℤ) (m : ℕ) → leb (unsigned_abs z) m ≡ (int_le (neg_ℤ (pos m)) z && int_le z (pos m))
+within_is (pos n) zero = rw (le-leb 0 n (omega arith)) refl
+within_is (pos n) (suc m) = refl
+within_is (negsuc n) zero = lt-leb (suc n) 0 (omega arith)
+within_is (negsuc n) (suc m) = elim (cases_lt m n) [
+  | inl l ↦ rw (lt-leb (suc n) (suc m) (omega arith), lt-leb n m l) refl
+  | inr l ↦ rw (le-leb (suc n) (suc m) (omega arith), le-leb n m l) refl
+]
+
+pub within_reach : (side reach : ℤ) → pos 0 ≤ℤ reach → leb (unsigned_abs side) (unsigned_abs reach) ≡ (int_le (neg_ℤ reach) side && int_le side reach)
+within_reach side (pos m) h = within_is side m
+within_reach side (negsuc m) h = absurd (omega (arith, signed))
 
 neg_twice : (a : ℤ) → neg_ℤ (neg_ℤ a) ≡ a
 neg_twice a = omega (arith, signed)

@@ -1,5 +1,5 @@
 //! What every quadrilateral asks of a loop, formed once.
-ghost use Rattle.std.specs.Prelude.{◌≡◌, ◌^◌, ◌<◌, ◌≤◌, ◌*ℤ◌, ◌+ℤ◌, pos};
+ghost use Rattle.std.specs.Prelude.{◌≡◌, ◌^◌, ◌<◌, ◌≤◌, ◌*ℤ◌, ◌+ℤ◌, ◌-ℤ◌, ◌≤ℤ◌, pos};
 ghost use Rattle.std.specs.Int.RustNames.{unsigned_abs};
 ghost use Rattle.relay_num.specs.Bounds.{loop_voltage_bound, loop_current_bound};
 ghost use Rattle.relay_num.specs.Numbers.{IsBelow};
@@ -22,6 +22,7 @@ pub struct LoopImpedance {
     ghost resistance_size: { unsigned_abs resistance < 2 ^ 110 },
     ghost reactance_size: { unsigned_abs reactance < 2 ^ 110 },
     ghost square_size: { unsigned_abs square < 2 ^ 96 },
+    ghost square_sign: { pos 0 ≤ℤ square },
 }
 
 impl LoopImpedance {
@@ -66,7 +67,7 @@ impl LoopImpedance {
         ensures cost { steps.new ≡ steps.old + 1 }
     {
         steps.tick();
-        if !(self.square > 0) {
+        if self.square == 0 {
             return false;
         }
         if !self.is_below_top(q) {
@@ -92,9 +93,9 @@ impl LoopImpedance {
         ensures { result ≡ (int_le (neg_ℤ (pos 1000) *ℤ q.now.reach_r *ℤ self.now.square) (pos 1000 *ℤ self.now.resistance -ℤ q.now.slope *ℤ self.now.reactance)
             && int_le (pos 1000 *ℤ self.now.resistance -ℤ q.now.slope *ℤ self.now.reactance) (pos 1000 *ℤ q.now.reach_r *ℤ self.now.square)) }
     {
-        let side = tilted(self.resistance, -q.slope, self.reactance);
+        let side = leaned(self.resistance, q.slope, self.reactance);
         let reach = times(1000 * q.reach_r, self.square);
-        (-reach <= side) & (side <= reach)
+        side.unsigned_abs() <= reach as u128
     }
 
     /// Whether the reactance is at least the reach behind the relay.
@@ -116,12 +117,26 @@ fn tilted(x: i128, k: i64, y: i128) -> i128
     1000 * x + i128::from(k) * y
 }
 
-/// `k * size`, of a reach that isn't below 0.
+/// `1000 * x - k * y`, with `k` of at least 0: an unsigned factor takes a multiplication less.
+fn leaned(x: i128, k: i64, y: i128) -> i128
+    requires k { unsigned_abs k ≤ 1000 }
+    requires k_sign { pos 0 ≤ℤ k }
+    requires x { unsigned_abs x < 2 ^ 110 }
+    requires y { unsigned_abs y < 2 ^ 110 }
+    ensures { result ≡ pos 1000 *ℤ x -ℤ k *ℤ y }
+{
+    1000 * x - i128::from(k as u64) * y
+}
+
+/// `k * size`, of a reach and a square, which aren't below 0: unsigned factors take a multiplication less.
 fn times(k: i64, size: i128) -> i128
     requires k { unsigned_abs k < 2 ^ 30 }
+    requires k_sign { pos 0 ≤ℤ k }
     requires size { unsigned_abs size < 2 ^ 96 }
+    requires size_sign { pos 0 ≤ℤ size }
     ensures value { result ≡ k *ℤ size }
     ensures size { unsigned_abs result < 2 ^ 126 }
+    ensures sign { pos 0 ≤ℤ result }
 {
-    i128::from(k) * size
+    (u128::from(k as u64) * size as u128) as i128
 }

@@ -1,4 +1,4 @@
-use Rattle.std.proofs.Common.{◌∙◌, rules, refl, FitsSigned, to_z-of_z}
+use Rattle.std.proofs.Common.{rules, refl, FitsSigned, to_z-of_z}
 use Rattle.std.specs.Int.{w128}
 use Rattle.apparent_impedance.proofs.Powers.{negated}
 use Rattle.quad_zone.proofs.QuadLemmas.{held_setting, minus_product, sizes}

@@ -1,4 +1,4 @@
-use Rattle.std.proofs.Common.{◌∙◌, ◌^◌, rules, arith, refl, FitsSigned, to_z-of_z}
+use Rattle.std.proofs.Common.{rules, arith, refl, FitsSigned, to_z-of_z}
 use Rattle.std.specs.Int.{w128}
 use Rattle.quad_zone.proofs.QuadLemmas.{held_setting, held_thousand, sizes}
 use Rattle.quad_zone.proofs.impedance.LoopImpedance.is_below_top.Goals as goal

@@ -1,7 +1,7 @@
-use Rattle.std.proofs.Common.{◌≡◌, ◌<◌, ◌^◌, ◌∙◌, ℤ, neg_ℤ, ◌*ℤ◌, ap, ap₂, sym, arith, lit≤, FitsSigned, to_z-of_z}
+use Rattle.std.proofs.Common.{◌^◌, ◌∙◌, neg_ℤ, ap, sym, arith, lit≤, FitsSigned, to_z-of_z}
 use Rattle.std.specs.Int.{w128}
 use Rattle.relay_num.specs.declared.Cx.{Cx}
-use Rattle.relay_num.specs.Numbers.{scaled, norm, opposite}
+use Rattle.relay_num.specs.Numbers.{scaled}
 use Rattle.relay_num.proofs.Wide.{fits_128}
 use Rattle.apparent_impedance.specs.Impedance.{loop_scale}
 use Rattle.apparent_impedance.proofs.Powers.{negated, power_turned}
