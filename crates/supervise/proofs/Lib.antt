@@ -1,2 +1,3 @@
+mod AtLeastLemmas
 mod FuseLemmas
 pub mod NumberedFuseLemmas
