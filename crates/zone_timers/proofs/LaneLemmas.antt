@@ -15,32 +15,67 @@ use Rattle.loop_impedance.specs.Masks.{has_bit}
 abbrev pub mask_lane : (ℕ → ℕ → Bool) → ℕ → ℕ → ℕ
 mask_lane t a b = cond (t a b) (2 ^ 32 - 1) 0
 
-raised_lane : (run end : ℕ) → end < 2 ^ 32 → cond (ltb run end) ((run + 1) % 2 ^ 32) end ≡ min (run + 1) end
-raised_lane run end h = grind (arith, nat_tests)
+before_lane : (end : ℕ) → 0 < end → end < 2 ^ 32 → (end + (2 ^ 32 - 1)) % 2 ^ 32 ≡ end - 1
+before_lane end some h = omega arith
 
--- one more than each run where that is below its end, otherwise the end
+least_lane : (run before : ℕ) → cond (ltb run before) run before ≡ min run before
+least_lane run before = grind (arith, nat_tests)
+
+raised_lane : (run end : ℕ) → 0 < end → end < 2 ^ 32 → (min run (end - 1) + 1) % 2 ^ 32 ≡ min (run + 1) end
+raised_lane run end some h = omega arith
+
+-- one less than each end
+abbrev pub before_ends : List ℕ → List ℕ
+before_ends ends = zip2 (λ a b. (a + (2 ^ 32 - b)) % 2 ^ 32) ends (replicate 8 1)
+
+-- the less of each run and of what lies before its end
+abbrev pub least_lanes : List ℕ → List ℕ → List ℕ
+least_lanes runs ends = sel_l (map (top 31) (zip2 (mask_lane ltb) runs (before_ends ends))) runs (before_ends ends)
+
+-- one more than that
 abbrev pub raised_lanes : List ℕ → List ℕ → List ℕ
-raised_lanes runs ends = sel_l (map (top 31) (zip2 (mask_lane ltb) runs ends)) (zip2 (λ a b. (a + b) % 2 ^ 32) runs (replicate 8 1)) ends
+raised_lanes runs ends = zip2 (λ a b. (a + b) % 2 ^ 32) (least_lanes runs ends) (replicate 8 1)
+
+before_long : (ends : List ℕ) → length ends ≡ 8 → length (before_ends ends) ≡ 8
+before_long ends long = length-zip2 (λ a b. (a + (2 ^ 32 - b)) % 2 ^ 32) ends (replicate 8 1) long ∙ long
+
+before_is : (ends : List ℕ) (lp : ℕ) → length ends ≡ 8 → lp < 8 → 0 < get_or ends lp 0 → get_or ends lp 0 < 2 ^ 32 →
+    get_or (before_ends ends) lp 0 ≡ get_or ends lp 0 - 1
+before_is ends lp long h some small =
+    get_or-zip2 (λ a b. (a + (2 ^ 32 - b)) % 2 ^ 32) ends (replicate 8 1) lp 0 0 0 (omega arith) h
+    ∙ ap (λ b. (get_or ends lp 0 + (2 ^ 32 - b)) % 2 ^ 32) (get_or-replicate 8 lp 1 0 h)
+    ∙ before_lane (get_or ends lp 0) some small
+
+least_long : (runs ends : List ℕ) → length runs ≡ 8 → length ends ≡ 8 → length (least_lanes runs ends) ≡ 8
+least_long runs ends long ends_long =
+    let before : length (before_ends ends) ≡ 8 = before_long ends ends_long in
+    let below_long : length (zip2 ltb runs (before_ends ends)) ≡ 8 = length-zip2 ltb runs (before_ends ends) (omega arith) ∙ long in
+    ap (λ ms. length (sel_l ms runs (before_ends ends))) (tops_compared w32 ltb runs (before_ends ends))
+    ∙ length-sel_l (zip2 ltb runs (before_ends ends)) runs (before_ends ends) (omega arith) (omega arith) ∙ below_long
+
+least_is : (runs ends : List ℕ) (lp : ℕ) → length runs ≡ 8 → length ends ≡ 8 → lp < 8 → 0 < get_or ends lp 0 → get_or ends lp 0 < 2 ^ 32 →
+    get_or (least_lanes runs ends) lp 0 ≡ min (get_or runs lp 0) (get_or ends lp 0 - 1)
+least_is runs ends lp long ends_long h some small =
+    let before : length (before_ends ends) ≡ 8 = before_long ends ends_long in
+    let below_long : length (zip2 ltb runs (before_ends ends)) ≡ 8 = length-zip2 ltb runs (before_ends ends) (omega arith) ∙ long in
+    ap (λ ms. get_or (sel_l ms runs (before_ends ends)) lp 0) (tops_compared w32 ltb runs (before_ends ends))
+    ∙ get_or-sel_l (zip2 ltb runs (before_ends ends)) runs (before_ends ends) lp 0 (omega arith) (omega arith) (omega arith)
+    ∙ ap (λ b. cond b (get_or runs lp 0) (get_or (before_ends ends) lp 0)) (get_or-zip2 ltb runs (before_ends ends) lp 0 0 false (omega arith) (omega arith))
+    ∙ least_lane (get_or runs lp 0) (get_or (before_ends ends) lp 0)
+    ∙ ap (λ n. min (get_or runs lp 0) n) (before_is ends lp ends_long h some small)
 
 raised_long : (runs ends : List ℕ) → length runs ≡ 8 → length ends ≡ 8 → length (raised_lanes runs ends) ≡ 8
 raised_long runs ends long ends_long =
-    let below_long : length (zip2 ltb runs ends) ≡ 8 = length-zip2 ltb runs ends (omega arith) ∙ long in
-    let sums_long : length (zip2 (λ a b. (a + b) % 2 ^ 32) runs (replicate 8 1)) ≡ 8 = length-zip2 (λ a b. (a + b) % 2 ^ 32) runs (replicate 8 1) long ∙ long in
-    ap (λ ms. length (sel_l ms (zip2 (λ a b. (a + b) % 2 ^ 32) runs (replicate 8 1)) ends)) (tops_compared w32 ltb runs ends)
-    ∙ length-sel_l (zip2 ltb runs ends) (zip2 (λ a b. (a + b) % 2 ^ 32) runs (replicate 8 1)) ends (omega arith) (omega arith) ∙ below_long
+    let least : length (least_lanes runs ends) ≡ 8 = least_long runs ends long ends_long in
+    length-zip2 (λ a b. (a + b) % 2 ^ 32) (least_lanes runs ends) (replicate 8 1) least ∙ least
 
-pub raised_is : (runs ends : List ℕ) (lp : ℕ) → length runs ≡ 8 → length ends ≡ 8 → lp < 8 → get_or ends lp 0 < 2 ^ 32 →
+raised_is : (runs ends : List ℕ) (lp : ℕ) → length runs ≡ 8 → length ends ≡ 8 → lp < 8 → 0 < get_or ends lp 0 → get_or ends lp 0 < 2 ^ 32 →
     get_or (raised_lanes runs ends) lp 0 ≡ min (get_or runs lp 0 + 1) (get_or ends lp 0)
-raised_is runs ends lp long ends_long h small =
-    let below_long : length (zip2 ltb runs ends) ≡ 8 = length-zip2 ltb runs ends (omega arith) ∙ long in
-    let sums_long : length (zip2 (λ a b. (a + b) % 2 ^ 32) runs (replicate 8 1)) ≡ 8 = length-zip2 (λ a b. (a + b) % 2 ^ 32) runs (replicate 8 1) long ∙ long in
-    ap (λ ms. get_or (sel_l ms (zip2 (λ a b. (a + b) % 2 ^ 32) runs (replicate 8 1)) ends) lp 0) (tops_compared w32 ltb runs ends)
-    ∙ get_or-sel_l (zip2 ltb runs ends) (zip2 (λ a b. (a + b) % 2 ^ 32) runs (replicate 8 1)) ends lp 0 (omega arith) (omega arith) (omega arith)
-    ∙ ap₂ (λ b n. cond b n (get_or ends lp 0))
-    (get_or-zip2 ltb runs ends lp 0 0 false (omega arith) (omega arith))
-    (get_or-zip2 (λ a b. (a + b) % 2 ^ 32) runs (replicate 8 1) lp 0 0 0 (omega arith) h
-    ∙ ap (λ n. (get_or runs lp 0 + n) % 2 ^ 32) (get_or-replicate 8 lp 1 0 h))
-    ∙ raised_lane (get_or runs lp 0) (get_or ends lp 0) small
+raised_is runs ends lp long ends_long h some small =
+    let least : length (least_lanes runs ends) ≡ 8 = least_long runs ends long ends_long in
+    get_or-zip2 (λ a b. (a + b) % 2 ^ 32) (least_lanes runs ends) (replicate 8 1) lp 0 0 0 (omega arith) h
+    ∙ ap₂ (λ a b. (a + b) % 2 ^ 32) (least_is runs ends lp long ends_long h some small) (get_or-replicate 8 lp 1 0 h)
+    ∙ raised_lane (get_or runs lp 0) (get_or ends lp 0) some small
 
 -- whether a mask has a bit, as a comparison of lanes leaves it
 abbrev pub lane_bit : ℕ → ℕ → Bool
@@ -76,9 +111,9 @@ selected_is mask xs lp long h =
     ∙ ap₂ (λ b n. cond b (get_or xs lp 0) n) (loop_lane mask lp h) (get_or-replicate 8 lp 0 0 (omega arith))
 
 -- the runs after one more take
-pub runs_are : (mask : ℕ) (runs ends : List ℕ) (lp : ℕ) → length runs ≡ 8 → length ends ≡ 8 → lp < 6 → get_or ends lp 0 < 2 ^ 32 →
+pub runs_are : (mask : ℕ) (runs ends : List ℕ) (lp : ℕ) → length runs ≡ 8 → length ends ≡ 8 → lp < 6 → 0 < get_or ends lp 0 → get_or ends lp 0 < 2 ^ 32 →
     get_or (sel_l (lane_bits mask) (raised_lanes runs ends) (replicate 8 0)) lp 0
     ≡ cond (has_bit lp mask) (min (get_or runs lp 0 + 1) (get_or ends lp 0)) 0
-runs_are mask runs ends lp long ends_long h small =
+runs_are mask runs ends lp long ends_long h some small =
     selected_is mask (raised_lanes runs ends) lp (raised_long runs ends long ends_long) h
-    ∙ ap (λ n. cond (has_bit lp mask) n 0) (raised_is runs ends lp long ends_long (omega arith) small)
+    ∙ ap (λ n. cond (has_bit lp mask) n 0) (raised_is runs ends lp long ends_long (omega arith) some small)

@@ -1,9 +1,9 @@
 -- A take at which nothing is inside ends each run, and nothing operates.
-use Rattle.std.proofs.Common.{◌≡◌, ℕ, ◌+◌, ◌<◌, Bool, false, cond, leb, min, refl, sym, ap, ◌∙◌, arith, List, [], ◌∷◌}
+use Rattle.std.proofs.Common.{◌≡◌, ℕ, ◌+◌, ◌<◌, Bool, false, cond, leb, min, sym, ap, ◌∙◌, arith, List, [], ◌∷◌}
 use Rattle.std.proofs.lemmas.Bool.{lt-leb}
 use Rattle.std.specs.List.{prefix_len}
 use Rattle.sample_windows.proofs.WindowLemmas.{each_of_last-run}
-use Rattle.zone_timers.specs.Masks.{has_loop, zone_masks}
+use Rattle.zone_timers.specs.Masks.{has_loop}
 use Rattle.zone_timers.specs.Operate.{delay_of, operates, operated_masks}
 use Rattle.zone_timers.proofs.OperateLemmas.{zone_masks-same, has_loop-zone_masks}
 

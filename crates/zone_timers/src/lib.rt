@@ -11,7 +11,7 @@
 //! no loop is inside of no samples, nor at a sample that follows a gap, and the numbers rise.
 #![tactic(auto)]
 
-ghost use Rattle.std.specs.Prelude.{◌≤◌, All};
+ghost use Rattle.std.specs.Prelude.{ℕ, ◌<◌, ◌≤◌, [], All, slice_index, slice_index_or};
 
 mod laws;
 #[cfg(test)]
@@ -28,6 +28,7 @@ pub struct Timers {
     /// One more than each loop's delay: a run that has come to it operates.
     ends: [[u32; 8]; 5],
     runs: [[u32; 8]; 5],
+    ghost some: { (zone lp : ℕ) → zone < 5 → lp < 6 → 0 < slice_index (slice_index_or ends zone []) lp },
 }
 
 impl Timers {

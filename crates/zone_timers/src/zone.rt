@@ -14,11 +14,14 @@ const BITS: [u32; 8] = [1, 2, 4, 8, 16, 32, 0, 0];
 /// The runs after one more take: where the loop is inside one more than before, up to its end, otherwise 0.
 #[inline(always)]
 fn runs_after(runs: &[u32; 8], ends: &[u32; 8], inside: u8) -> [u32; 8]
+    requires { (lp : ℕ) → lp < 6 → 0 < slice_index ends.now lp }
     ensures { (lp : ℕ) → lp < 6 → slice_index result lp ≡
         (if has_bit lp inside then min (slice_index runs.now lp + 1) (slice_index ends.now lp) else 0) }
 {
     let (runs, ends) = (u32x8::from_array(*runs), u32x8::from_array(*ends));
-    let raised = runs.simd_lt(ends).select(runs + u32x8::splat(1), ends);
+    // Each end is at least 1, so the least of what lies before both is one less than the run.
+    let one = u32x8::splat(1);
+    let raised = runs.simd_min(ends - one) + one;
     let none = u32x8::splat(0);
     let is_inside = (u32x8::splat(u32::from(inside)) & u32x8::from_array(BITS)).simd_ne(none);
     is_inside.select(raised, none).to_array()
@@ -57,6 +60,7 @@ pub fn ends_of(ground_delays: &[u32; 5], phase_delays: &[u32; 5]) -> [[u32; 8]; 
 
 /// Counts the run of each loop up to its end, and answers for each zone the mask of those that have come to it.
 pub fn take_zones(ends: &[[u32; 8]; 5], inside: &[u8; 5], runs: &mut [[u32; 8]; 5]) -> [u8; 5]
+    requires { (zone lp : ℕ) → zone < 5 → lp < 6 → 0 < lane ends.now zone lp }
     ensures runs { (zone lp : ℕ) → zone < 5 → lp < 6 → lane runs.new zone lp ≡
         (if has_loop zone lp inside.now then min (lane runs.old zone lp + 1) (lane ends.now zone lp) else 0) }
     ensures ended { result ≡ zone_masks (λ zone lp. lane runs.new zone lp == lane ends.now zone lp) }

@@ -17,7 +17,7 @@ next : (b : Bool) (run old new n : ℕ) → old ≡ min run n → new ≡ (if b 
 next true run old new n e f = omega arith
 next false run old new n e f = omega arith
 
-module _ (c : goal.After-take_zones) (ground_delays phase_delays : List ℕ) (takes : List (List ℕ)) (stands : StandsFor ground_delays phase_delays takes c.args.self.now) where
+module _ (c : goal.After-self-1) (ground_delays phase_delays : List ℕ) (takes : List (List ℕ)) (stands : StandsFor ground_delays phase_delays takes c.args.self.now) where
   runs_next : (zone lp : ℕ) → zone < 5 → lp < 6 → lane c.take_zones.new.runs zone lp ≡
       min (prefix_len (has_loop zone lp) (c.args.inside.now ∷ takes)) (delay_of ground_delays phase_delays zone lp + 1)
   runs_next zone lp z l =
