@@ -1,6 +1,7 @@
 //! How far the offsets of the frames after a change have come.
 
 ghost use Rattle.std.specs.Prelude.{◌≡◌, ◌<◌, ◌≤◌};
+ghost use Rattle.relay_settings.specs.Samples.{samples};
 
 use relay_settings::Common;
 
@@ -11,11 +12,14 @@ pub struct Pace {
     heartbeat_ms: u32,
     step_ms: u32,
     next_ms: u64,
+    /// The samples after the change at which that offset falls: most samples are only compared with it.
+    due: u128,
     ghost fast: { 1000 ≤ rate },
     ghost heartbeat: { heartbeat_ms ≤ 60000 },
     ghost some: { 0 < step_ms },
     ghost short: { step_ms ≤ heartbeat_ms },
     ghost ahead: { 0 < next_ms },
+    ghost due_is: { due ≡ samples rate next_ms },
 }
 
 impl Pace {
@@ -38,6 +42,7 @@ impl Pace {
             heartbeat_ms: common.heartbeat_ms,
             step_ms,
             next_ms: u64::from(step_ms),
+            due: samples_to(common.rate, u64::from(step_ms)),
         }
     }
 
@@ -47,6 +52,7 @@ impl Pace {
     {
         self.step_ms = self.heartbeat_ms.min(4);
         self.next_ms = u64::from(self.step_ms);
+        self.due = samples_to(self.rate, self.next_ms);
     }
 
     /// Three times the step from the last offset that is passed to the next.
@@ -71,16 +77,23 @@ impl Pace {
         while self.is_within(age) {
             self.step_ms = self.heartbeat_ms.min(2 * self.step_ms);
             self.next_ms += u64::from(self.step_ms);
+            self.due = samples_to(self.rate, self.next_ms);
         }
         is_due
     }
 
-    /// Whether the next offset falls at most `age` samples after the change. It is compared in thousandths of samples, so
-    /// that nothing is divided.
+    /// Whether the next offset falls at most `age` samples after the change.
     fn is_within(&self, age: u64) -> bool
         requires { age < 2 ^ 61 }
         ensures { result ≡ nat_le (samples self.now.rate self.now.next_ms) age }
     {
-        u128::from(self.rate) * u128::from(self.next_ms) <= 1000 * u128::from(age)
+        self.due <= u128::from(age)
     }
+}
+
+/// `ms` milliseconds in samples, rounded up.
+fn samples_to(rate: u32, ms: u64) -> u128
+    ensures { result ≡ samples rate ms }
+{
+    (u128::from(ms) * u128::from(rate) + 999) / 1000
 }
