@@ -1,5 +1,5 @@
 -- The parts of what a format's reader tells that are the same in each format.
-use Rattle.std.proofs.Common.{◌≡◌, ℕ, ◌+◌, ◌≤◌, ◌<◌, zero, suc, ◌⊎◌, inl, inr, Bool, List, [], ◌++◌, length, take, drop, min, IsTrue, append-nil, length-drop, sym, ap, ◌∙◌, arith}
+use Rattle.std.proofs.Common.{◌≡◌, ℕ, ◌+◌, ◌≤◌, ◌<◌, zero, suc, ◌⊎◌, inl, inr, Bool, List, [], ◌++◌, length, take, drop, min, IsTrue, append-nil, length-drop, take-append-drop, sym, ap, ◌∙◌, arith}
 use Rattle.std.specs.Prelude.{Err}
 use Rattle.std.proofs.lemmas.List.{drop-drop, drop-append-le, take-append-le}
 use Rattle.std.proofs.lemmas.Grind.{common_steps}
@@ -47,6 +47,12 @@ pub within-text : (n fixed : ℕ) (text more : List ℕ) → fixed + n ≤ lengt
 within-text n fixed text more h =
     let len = length-drop fixed text in
     ap (take n) (drop-append-le fixed text more (omega arith)) ∙ take-append-le n (drop fixed text) more (omega arith)
+
+-- what stands before the end of what was read isn't changed by what the block has behind it
+pub before_end : (n at end : ℕ) (block items : List ℕ) → items ≡ take end block → at + n ≤ length items → take n (drop at block) ≡ take n (drop at items)
+before_end n at end block items is h =
+    ap (λ xs. take n (drop at xs)) (sym (take-append-drop end block))
+    ∙ (within-text n at (take end block) (drop end block) (let len = ap length is in omega arith) ∙ ap (λ xs. take n (drop at xs)) (sym is))
 
 pub behind_text : (n : ℕ) (text more : List ℕ) → length text ≡ n → drop n (text ++ more) ≡ more
 behind_text n text more long = ap (λ k. drop k (text ++ more)) (sym long) ∙ drop-append_seam text more

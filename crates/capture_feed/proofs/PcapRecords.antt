@@ -9,7 +9,7 @@ use Rattle.capture_feed.specs.Reads.{Took, Passes}
 use Rattle.capture_feed.specs.Pieces.{GivesPiece}
 use Rattle.capture_feed.proofs.Taking.{Fits, records-ends, records-holds, no-bodies}
 use Rattle.capture_feed.proofs.Handing.{goes_by}
-use Rattle.capture_feed.proofs.Asking.{number_at-prefix, whole_is, either_way, lent, within-text, behind_text}
+use Rattle.capture_feed.proofs.Asking.{number_at-prefix, whole_is, either_way, lent, within-text, before_end, behind_text}
 
 abbrev chooses : (a b c : Bool) (w v u : Stop) → First Bool → First Bool
 chooses a b c w v u x = if a then Ends w else if b then Ends v else if c then Ends u else x
@@ -129,10 +129,10 @@ module _ (is_big : Bool) (limit taken : ℕ) (below : taken < limit) where
       ∙ ap (λ xs. add (take n (drop 16 text)) (records_from first_record limit is_big (taken + (16 + n)) xs)) (behind_text (16 + n) text more long)))
 
   -- a whole record was taken off
-  pub at_record : (most : ℕ) (held head more block items left now : List ℕ) {old new : List ℕ} (n at : ℕ) → most ≡ 2048 → Took old new → held ++ old ≡ head ++ more → 16 ≤ length head → n ≡ captured is_big head → n ≤ 262144 →
-      held ++ old ≡ drop at items ++ left → 16 + min n most ≤ length (drop at items) → Passes (16 + n) (drop at items ++ left) (now ++ new) → block ≡ items →
+  pub at_record : (most : ℕ) (held head more block items left now : List ℕ) {old new : List ℕ} (n at end : ℕ) → most ≡ 2048 → Took old new → held ++ old ≡ head ++ more → 16 ≤ length head → n ≡ captured is_big head → n ≤ 262144 →
+      held ++ old ≡ drop at items ++ left → 16 + min n most ≤ length (drop at items) → Passes (16 + n) (drop at items ++ left) (now ++ new) → items ≡ take end block →
       GivesPiece (λ left. records_from first_record limit is_big taken (held ++ left)) (λ left. records_from first_record limit is_big (taken + (16 + n)) (now ++ left)) block (Some (record { at = at + 16; captured = n })) old new
-  at_record most held head more block items left now {old} {new} n at most_is took h long n_is small e fits p block_is =
+  at_record most held head more block items left now {old} {new} n at end most_is took h long n_is small e fits p block_is =
       let whole : List ℕ = held ++ old in
       let same : captured is_big whole ≡ n = captured_is is_big whole head more n h long n_is in
       let text_long : length p.prefix ≡ 16 + n = p.long in
@@ -146,7 +146,7 @@ module _ (is_big : Bool) (limit taken : ℕ) (below : taken < limit) where
             (λ next. one_record n p.prefix next text_long here small);
         lends = (
           ap length (take_all n (drop 16 p.prefix) (omega arith)) ∙ (omega arith),
-          ap (λ k. take (min n k) (drop (at + 16) block)) (sym most_is) ∙ (ap (λ xs. take (min n most) (drop (at + 16) xs)) block_is ∙ (lent most 16 at n items left whole e fits
+          ap (λ k. take (min n k) (drop (at + 16) block)) (sym most_is) ∙ (before_end (min n most) (at + 16) end block items block_is (let all = length-drop at items in omega arith) ∙ (lent most 16 at n items left whole e fits
               ∙ (ap (take most) body_is ∙ ap (λ k. take k (take n (drop 16 p.prefix))) most_is))),
         );
       }

@@ -13,7 +13,7 @@ use Rattle.capture_feed.specs.declared.content.Content.{Content}
 use Rattle.capture_feed.specs.declared.content.Content.TheVariants.{Description, Packet, Passed}
 use Rattle.capture_feed.proofs.Taking.{records-ends, records-holds, no-bodies}
 use Rattle.capture_feed.proofs.Handing.{goes_by}
-use Rattle.capture_feed.proofs.Asking.{number_at-prefix, either_way, lent, within-text, behind_text}
+use Rattle.capture_feed.proofs.Asking.{number_at-prefix, either_way, lent, within-text, before_end, behind_text}
 use Rattle.capture_feed.proofs.PcapngBlocks.{stands, fits_block, same_long, same_start, begun, good-range, both, ends_cut_body, whole_is_there, ends_damaged_last, ends_damaged_rule, holds_block, content-prefix}
 
 -- the first bytes of a block show this
@@ -119,27 +119,27 @@ module _ (section : PlainSection) (limit taken : ℕ) (below : taken < limit) wh
   packet-prefix total (Description interface) text more long within = refl
   packet-prefix total Passed text more long within = refl
 
-  lends_packet : (total at : ℕ) (c : Content) (items left whole text rest block : List ℕ) → IsWithin total 0 c → whole ≡ text ++ rest → length text ≡ total → whole ≡ drop at items ++ left → min total 4096 ≤ length (drop at items) → block ≡ items → Lends block (packet_of c text) (place_at c at)
-  lends_packet total at (Packet from captured) items left whole text rest block within t long e held block_is =
+  lends_packet : (total at end : ℕ) (c : Content) (items left whole text rest block : List ℕ) → IsWithin total 0 c → whole ≡ text ++ rest → length text ≡ total → whole ≡ drop at items ++ left → min total 4096 ≤ length (drop at items) → items ≡ take end block → Lends block (packet_of c text) (place_at c at)
+  lends_packet total at end (Packet from captured) items left whole text rest block within t long e held block_is =
       let a : 12 ≤ from = within.0 in
       let b : from ≤ 28 = within.1 in
       let w : from + 4 + captured ≤ total = within.2 in
       let len = length-drop from text in
       let lent_is : take (min captured 2048) (drop (at + from) items) ≡ take 2048 (take captured (drop from whole)) = lent 2048 from at captured items left whole e (omega arith) in (
         enough captured (drop from text) (omega arith),
-        ap (λ xs. take (min captured 2048) (drop (at + from) xs)) block_is ∙ (lent_is ∙ (ap (λ xs. take 2048 (take captured (drop from xs))) t ∙ ap (take 2048) (within-text captured from text rest (omega arith)))),
+        before_end (min captured 2048) (at + from) end block items block_is (let all = length-drop at items in omega arith) ∙ (lent_is ∙ (ap (λ xs. take 2048 (take captured (drop from xs))) t ∙ ap (take 2048) (within-text captured from text rest (omega arith)))),
       )
     where
       enough : (n : ℕ) (xs : List ℕ) → n ≤ length xs → length (take n xs) ≡ n
       enough n xs h = let l = length-take n xs in omega arith
-  lends_packet total at (Description interface) items left whole text rest block within t long e held block_is = tt
-  lends_packet total at Passed items left whole text rest block within t long e held block_is = tt
+  lends_packet total at end (Description interface) items left whole text rest block within t long e held block_is = tt
+  lends_packet total at end Passed items left whole text rest block within t long e held block_is = tt
 
   -- a sound block was taken off
-  pub gives_block : {now : PlainSection} {total : ℕ} {last text : List ℕ} (held kept : List ℕ) (c : Content) (at : ℕ) (items left block : List ℕ) {old new : List ℕ} → Took old new → Begun section now total (held ++ old) → IsText total last (held ++ old) text (kept ++ new) →
-      held ++ old ≡ drop at items ++ left → min total 4096 ≤ length (drop at items) → content now total (drop at items) ≡ Some c → IsWithin total 0 c → number_at now.is_big 0 4 last ≡ total → block ≡ items →
+  pub gives_block : {now : PlainSection} {total : ℕ} {last text : List ℕ} (held kept : List ℕ) (c : Content) (at end : ℕ) (items left block : List ℕ) {old new : List ℕ} → Took old new → Begun section now total (held ++ old) → IsText total last (held ++ old) text (kept ++ new) →
+      held ++ old ≡ drop at items ++ left → min total 4096 ≤ length (drop at items) → content now total (drop at items) ≡ Some c → IsWithin total 0 c → number_at now.is_big 0 4 last ≡ total → items ≡ take end block →
       GivesPiece (λ l. records_from first_block limit section taken (held ++ l)) (λ l. records_from first_block limit (behind now c) (taken + total) (kept ++ l)) block (place_at c at) old new
-  gives_block {now} {total} {last} {text} held kept c at items left block {old} {new} took b t e long said within ending block_is =
+  gives_block {now} {total} {last} {text} held kept c at end items left block {old} {new} took b t e long said within ending block_is =
       let r = range_of b in
       let low : 12 ≤ total = r.0 in
       let size = t.long in
@@ -157,7 +157,7 @@ module _ (section : PlainSection) (limit taken : ℕ) (below : taken < limit) wh
             records-holds first_block fits_block limit section (behind now c) taken total (text ++ more) (packet_of c (text ++ more)) below first
             ∙ (ap (λ p. put p (records_from first_block limit (behind now c) (taken + total) (drop total (text ++ more)))) (packet-prefix total c text more t.long within)
             ∙ ap (λ xs. put (packet_of c text) (records_from first_block limit (behind now c) (taken + total) xs)) (behind_text total text more t.long)));
-        lends = lends_packet total at c items left (held ++ old) text (kept ++ new) block within t.is t.long e long block_is;
+        lends = lends_packet total at end c items left (held ++ old) text (kept ++ new) block within t.is t.long e long block_is;
       }
 
 -- the same in other words

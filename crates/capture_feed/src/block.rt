@@ -11,69 +11,22 @@ use std::alloc::Global;
 /// How many bytes a block has room for.
 const BLOCK: usize = 65536;
 
-/// The most bytes of one read.
+/// The most bytes of one read of bytes that are passed over.
 const PIECE: usize = 4096;
 
-/// Bytes that were read ahead; those from `at` on were not yet handed out.
+/// Bytes that were read ahead: those from `at` up to `end` were not yet handed out, and behind them is
+/// room for the next read.
 #[derive(Drop)]
 pub struct Block {
     pub bytes: Vec<u8>,
     pub at: usize,
-    ghost within: { at ≤ vec_len bytes },
-    ghost room: { 65536 ≤ vec_capacity bytes },
-}
-
-/// Removes the first bytes, and keeps the memory.
-fn remove_front(bytes: &mut Vec<u8>, count: usize)
-    requires { count ≤ vec_len bytes.old }
-    ensures items { bytes.new.items ≡ drop count bytes.old.items }
-    ensures capacity { vec_capacity bytes.new ≡ vec_capacity bytes.old }
-{
-    let len = bytes.len();
-    bytes.as_mut_slice().copy_within(count..len, 0);
-    bytes.truncate(len - count);
-}
-
-/// Appends bytes for which there is memory.
-fn append(bytes: &mut Vec<u8>, piece: &[u8])
-    requires { vec_len bytes.old + length piece.now ≤ vec_capacity bytes.old }
-    ensures items { bytes.new.items ≡ bytes.old.items ++ piece.now }
-    ensures capacity { vec_capacity bytes.old ≤ vec_capacity bytes.new }
-{
-    let Ok(()) = bytes.extend_from_slice(piece) else {
-        unreachable!()
-    };
-}
-
-/// Reads until so many bytes are there or the input ends.
-fn read_until<R: Room>(room: &mut R, bytes: &mut Vec<u8>, need: usize) -> Result<(), Fault>
-    requires ready { IsReadyIn Capture (R.state room.old) }
-    requires few { need ≤ 4096 }
-    requires fewer { vec_len bytes.old ≤ need }
-    requires room { 65536 ≤ vec_capacity bytes.old }
-    ensures left { IsTrue (R.state room.old).tells →
-        bytes.old.items ++ (R.state room.old).capture.bytes ≡
-        bytes.new.items ++ (R.state room.new).capture.bytes }
-    ensures end { OnOk result (IsTrue (R.state room.old).tells → vec_len bytes.new < need →
-        (R.state room.new).capture.bytes ≡ []) }
-    ensures short { OnErr result (vec_len bytes.new < need) }
-    ensures capacity { 65536 ≤ vec_capacity bytes.new }
-    ensures reads { OnlyReads (R.state room.old) (R.state room.new) }
-    ensures failed { OnErr result (Rose (R.state room.old).capture.faults
-        (R.state room.new).capture.faults) }
-{
-    let mut piece = [0u8; 4096];
-    while bytes.len() < need {
-        match room.read(Slot::Capture, &mut piece) {
-            Ok(0) => return Ok(()),
-            Ok(count) => append(bytes, &piece[..count]),
-            Err(fault) => return Err(fault),
-        }
-    }
-    Ok(())
+    pub end: usize,
+    ghost size: { vec_len bytes ≡ 65536 },
+    ghost within: { (at ≤ end) × (end ≤ 65536) },
 }
 
 /// Passes over so many bytes; false where the input ends before.
+#[inline(never)]
 fn pass_over<R: Room>(room: &mut R, count: u64) -> Result<bool, Fault>
     requires ready { IsReadyIn Capture (R.state room.old) }
     ensures all { IfOk result (λ all. all ≡ true → IsTrue (R.state room.old).tells →
@@ -86,10 +39,10 @@ fn pass_over<R: Room>(room: &mut R, count: u64) -> Result<bool, Fault>
     ensures failed { OnErr result (Rose (R.state room.old).capture.faults
         (R.state room.new).capture.faults) }
 {
-    let mut piece = [0u8; 4096];
+    let mut piece = [0u8; PIECE];
     let mut left = count;
     while left > 0 {
-        let want = left.min(4096) as usize;
+        let want = left.min(PIECE as u64) as usize;
         match room.read(Slot::Capture, &mut piece[..want]) {
             Ok(0) => return Ok(false),
             Ok(passed) => left -= passed as u64,
@@ -106,8 +59,12 @@ impl Block {
     pub fn new(alloc: Global) -> Result<Block, NoMemory>
         ensures { IfOk result (λ block. pending block ≡ []) }
     {
-        match Vec::with_capacity(alloc, BLOCK) {
-            Ok(bytes) => Ok(Block { bytes, at: 0 }),
+        match vec![in alloc; 0; BLOCK] {
+            Ok(bytes) => Ok(Block {
+                bytes,
+                at: 0,
+                end: 0,
+            }),
             Err(_) => Err(NoMemory),
         }
     }
@@ -116,14 +73,14 @@ impl Block {
     pub fn held(&self) -> usize
         ensures { result ≡ length (pending self.now) }
     {
-        self.bytes.len() - self.at
+        self.end - self.at
     }
 
     /// The bytes that it holds.
     pub fn rest(&self) -> &[u8]
         ensures { result.now ≡ pending self.now }
     {
-        &self.bytes[self.at..]
+        &self.bytes[self.at..self.end]
     }
 
     /// Passes over bytes that it holds.
@@ -132,6 +89,62 @@ impl Block {
         ensures { pending self.new ≡ drop count (pending self.old) }
     {
         self.at += count;
+    }
+
+    /// Moves what it holds to the front.
+    fn move_to_front(&mut self)
+        ensures held { pending self.new ≡ pending self.old }
+        ensures front { self.new.at ≡ 0 }
+    {
+        self.bytes.copy_within(self.at..self.end, 0);
+        self.end -= self.at;
+        self.at = 0;
+    }
+
+    /// Reads once behind what it holds, as far as there is room, and tells how many bytes came.
+    fn read_once<R: Room>(&mut self, room: &mut R) -> Result<usize, Fault>
+        requires ready { IsReadyIn Capture (R.state room.old) }
+        requires room { self.old.end < 65536 }
+        ensures left { IsTrue (R.state room.old).tells →
+            pending self.old ++ (R.state room.old).capture.bytes ≡
+            pending self.new ++ (R.state room.new).capture.bytes }
+        ensures count { IfOk result (λ count. self.new.end ≡ self.old.end + count) }
+        ensures end { IfOk result (λ count. count ≡ 0 → IsTrue (R.state room.old).tells →
+            (R.state room.new).capture.bytes ≡ []) }
+        ensures failed { OnErr result (self.new.end ≡ self.old.end) }
+        ensures at { self.new.at ≡ self.old.at }
+        ensures reads { OnlyReads (R.state room.old) (R.state room.new) }
+        ensures rose { OnErr result (Rose (R.state room.old).capture.faults
+            (R.state room.new).capture.faults) }
+    {
+        let count = room.read(Slot::Capture, &mut self.bytes[self.end..])?;
+        self.end += count;
+        Ok(count)
+    }
+
+    /// Reads until it holds so many bytes or the input ends, in place of what was handed out.
+    #[inline(never)]
+    fn read_until<R: Room>(&mut self, room: &mut R, need: usize) -> Result<(), Fault>
+        requires ready { IsReadyIn Capture (R.state room.old) }
+        requires few { need ≤ 4096 }
+        requires fewer { length (pending self.old) < need }
+        ensures left { IsTrue (R.state room.old).tells →
+            pending self.old ++ (R.state room.old).capture.bytes ≡
+            pending self.new ++ (R.state room.new).capture.bytes }
+        ensures end { OnOk result (IsTrue (R.state room.old).tells →
+            length (pending self.new) < need → (R.state room.new).capture.bytes ≡ []) }
+        ensures short { OnErr result (length (pending self.new) < need) }
+        ensures reads { OnlyReads (R.state room.old) (R.state room.new) }
+        ensures failed { OnErr result (Rose (R.state room.old).capture.faults
+            (R.state room.new).capture.faults) }
+    {
+        self.move_to_front();
+        while self.end < need {
+            if self.read_once(room)? == 0 {
+                return Ok(());
+            }
+        }
+        Ok(())
     }
 
     /// Reads until it holds so many bytes or the input ends.
@@ -148,12 +161,10 @@ impl Block {
         ensures failed { OnErr result (Rose (R.state room.old).capture.faults
             (R.state room.new).capture.faults) }
     {
-        if self.bytes.len() - self.at >= need {
+        if self.end - self.at >= need {
             return Ok(());
         }
-        remove_front(&mut self.bytes, self.at);
-        self.at = 0;
-        read_until(room, &mut self.bytes, need)
+        self.read_until(room, need)
     }
 
     /// Passes over so many bytes; false where the input ends before.
@@ -172,12 +183,12 @@ impl Block {
         ensures failed { OnErr result (Rose (R.state room.old).capture.faults
             (R.state room.new).capture.faults) }
     {
-        let held = self.bytes.len() - self.at;
+        let held = self.end - self.at;
         if count <= held as u64 {
             self.at += count as usize;
             return Ok(true);
         }
-        self.at = self.bytes.len();
+        self.at = self.end;
         match pass_over(room, count - held as u64) {
             Ok(all) => Ok(all),
             Err(fault) => Err(fault),
@@ -199,7 +210,7 @@ impl Block {
         ensures failed { OnErr result (Rose (R.state room.old).capture.faults
             (R.state room.new).capture.faults) }
     {
-        if self.at < self.bytes.len() {
+        if self.at < self.end {
             let byte = self.bytes[self.at];
             self.at += 1;
             return Ok(Some(byte));

@@ -1,4 +1,4 @@
-use Rattle.std.proofs.Common.{◌≡◌, ◌+◌, ◌++◌, IsTrue, length, arith, refl, ◌∙◌, ap}
+use Rattle.std.proofs.Common.{◌≡◌, ◌+◌, ◌++◌, IsTrue, length, take, arith, refl, sym, ◌∙◌, ap}
 use Rattle.room_io.proofs.ReadUpTo.{told_along}
 use Rattle.room_io.specs.Room.{Rose}
 use Rattle.capture_feed.specs.Records.{records_from}
@@ -79,10 +79,10 @@ returns-in-Ok-true-clause-asks g c = λ limit taken h.
       piece = λ told.
           let later = told_along c.fill.ensures.reads.only told in
           let now = c.fill.ensures.left told ∙ c.in-Ok-fill.ensures.left later in
-          at_record c.args.is_big limit taken h 2048 (pending c.args.block.now) (pending c.fill.new.self) (g.R.Room.state c.fill.new.room).capture.bytes c.skip.new.self.bytes.items c.fill-2.new.self.bytes.items (g.R.Room.state c.fill-2.new.room).capture.bytes (pending c.skip.new.self) c.captured_at-captured.result c.fill-2.new.self.at refl
+          at_record c.args.is_big limit taken h 2048 (pending c.args.block.now) (pending c.fill.new.self) (g.R.Room.state c.fill.new.room).capture.bytes c.skip.new.self.bytes.items (take c.fill-2.new.self.end c.fill-2.new.self.bytes.items) (g.R.Room.state c.fill-2.new.room).capture.bytes (pending c.skip.new.self) c.captured_at-captured.result c.fill-2.new.self.at c.fill-2.new.self.end refl
           ((OnlyReads-trans c.fill.ensures.reads (OnlyReads-trans c.fill-2.ensures.reads c.skip.ensures.reads)).took told)
           (c.fill.ensures.left told) (omega arith) n_is (omega arith) now (omega arith)
-          (c.in-Ok-true.ensures.all c.in-Ok-true.field-0-test (told_along c.fill-2.ensures.reads.only later)) (ap (λ b. b.items) c.skip.ensures.bytes);
+          (c.in-Ok-true.ensures.all c.in-Ok-true.field-0-test (told_along c.fill-2.ensures.reads.only later)) (ap (λ b. take c.fill-2.new.self.end b.items) (sym c.skip.ensures.bytes));
       whole = tt;
       stop = tt;
     }

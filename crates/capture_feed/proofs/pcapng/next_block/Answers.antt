@@ -1,4 +1,4 @@
-use Rattle.std.proofs.Common.{◌≡◌, ◌-◌, ◌++◌, ◌≤◌, ◌<◌, ◌&&◌, true, IsTrue, length, length-append, length-drop, vec_len, arith, append_assoc, sym, subst, ◌∙◌, ap}
+use Rattle.std.proofs.Common.{◌≡◌, ◌-◌, ◌++◌, ◌≤◌, ◌<◌, ◌&&◌, true, IsTrue, length, length-append, length-drop, length-take, take, vec_len, arith, append_assoc, sym, subst, ◌∙◌, ap}
 use Rattle.room_io.proofs.ReadUpTo.{told_along}
 use Rattle.room_io.specs.Room.{Rose}
 use Rattle.capture_feed.specs.Numbers.{number_at}
@@ -190,7 +190,8 @@ returns-in-Some-clause-sound g c =
     let low : 12 ≤ c.u32_at-total.result = range.0 in
     let high : c.u32_at-total.result ≤ 16777216 = range.1 in
     let same : vec_len c.take_four.new.self.bytes ≡ vec_len c.fill-2.new.self.bytes = ap (λ v. vec_len v) (c.take_four.ensures.bytes ∙ c.skip.ensures.bytes) in
-    let len = length-drop c.fill-2.new.self.at c.fill-2.new.self.bytes.items in
+    let len = length-drop c.fill-2.new.self.at (take c.fill-2.new.self.end c.fill-2.new.self.bytes.items) in
+    let all = length-take c.fill-2.new.self.end c.fill-2.new.self.bytes.items in
     let ok = c.fill-2.new.self.bytes.ok in
     sound_block c.take_four.new.self c.u32_at-total.result c.from-in-Some.result c.fill-2.new.self.at (vec_len c.enter-is_known.new.self.interfaces) c.in-Some.content c.place_of.result c.from-in-Some.ensures low high c.in-Some.ensures.within c.place_of.ensures (omega arith)
 
@@ -211,9 +212,9 @@ returns-in-Some-clause-asks g c = λ limit taken h.
     record {
       piece = λ told.
           gives_as (pending c.take_four.new.self) limit taken (plain_section c.enter-is_known.new.self) (plain_section c.go_on.new.self) c.in-Some.content c.u32_at-total.result c.from-in-Some.result c.fill-2.new.self.at c.place_of.result c.go_on.ensures c.from-in-Some.ensures c.place_of.ensures
-          (gives_block (plain_section c.args.section.now) limit taken h (pending c.args.block.now) (pending c.take_four.new.self) c.in-Some.content c.fill-2.new.self.at c.fill-2.new.self.bytes.items (g.R.Room.state c.fill-2.new.room).capture.bytes c.take_four.new.self.bytes.items
+          (gives_block (plain_section c.args.section.now) limit taken h (pending c.args.block.now) (pending c.take_four.new.self) c.in-Some.content c.fill-2.new.self.at c.fill-2.new.self.end (take c.fill-2.new.self.end c.fill-2.new.self.bytes.items) (g.R.Room.state c.fill-2.new.room).capture.bytes c.take_four.new.self.bytes.items
           ((OnlyReads-trans c.fill.ensures.reads (OnlyReads-trans c.fill-2.ensures.reads (OnlyReads-trans c.skip.ensures.reads c.take_four.ensures.reads))).took told) (b told) (text told) (now told) (omega arith) (sym (c.content-said.ensures.content ∙ ap (content (plain_section c.enter-is_known.new.self) c.u32_at-total.result) c.rest-4.ensures) ∙ c.in-Some.is) (within-none c.u32_at-total.result (vec_len c.enter-is_known.new.self.interfaces) c.in-Some.content c.in-Some.ensures.within)
-          (sym c.u32_at.ensures ∙ c.if-u32_at-total.true) (ap (λ v. v.items) (c.take_four.ensures.bytes ∙ c.skip.ensures.bytes)));
+          (sym c.u32_at.ensures ∙ c.if-u32_at-total.true) (ap (λ v. take c.fill-2.new.self.end v.items) (sym (c.take_four.ensures.bytes ∙ c.skip.ensures.bytes))));
       whole = tt;
       stop = tt;
     }
