@@ -1,5 +1,5 @@
 //! The bytes of a capture that were read ahead, in one block of memory.
-ghost use Rattle.std.specs.Prelude.{◌≡◌, ◌+◌, ◌-◌, ◌^◌, ◌≤◌, ◌<◌, ◌++◌, ◌∷◌, [], length, drop, take, vec_len, vec_capacity, IsTrue, true, false, IfOk, IfSome, IfNone, OnOk, OnErr, is_ok};
+ghost use Rattle.std.specs.Prelude.{◌≡◌, ◌+◌, ◌-◌, ◌^◌, ◌≤◌, ◌<◌, ◌++◌, ◌∷◌, [], length, drop, take, vec_len, IsTrue, true, false, IfOk, IfSome, IfNone, OnOk, OnErr, is_ok};
 ghost use Rattle.room_io.specs.Room.{IsReadyIn, Rose};
 ghost use Rattle.room_io.specs.declared.room.Slot.TheVariants.{Capture};
 ghost use Rattle.capture_feed.specs.Reads.{OnlyReads, Passes, BreaksOff};
@@ -25,7 +25,8 @@ pub struct Block {
     ghost within: { (at ≤ end) × (end ≤ 65536) },
 }
 
-/// Passes over so many bytes; false where the input ends before.
+/// Passes over so many bytes; false where the input ends before. It stands out of line, since its piece
+/// would be part of each record's frame on the stack.
 #[inline(never)]
 fn pass_over<R: Room>(room: &mut R, count: u64) -> Result<bool, Fault>
     requires ready { IsReadyIn Capture (R.state room.old) }
@@ -122,7 +123,8 @@ impl Block {
         Ok(count)
     }
 
-    /// Reads until it holds so many bytes or the input ends, in place of what was handed out.
+    /// Reads until it holds so many bytes or the input ends, in place of what was handed out. It stands
+    /// out of line, since most records are held whole.
     #[inline(never)]
     fn read_until<R: Room>(&mut self, room: &mut R, need: usize) -> Result<(), Fault>
         requires ready { IsReadyIn Capture (R.state room.old) }
@@ -147,7 +149,7 @@ impl Block {
         Ok(())
     }
 
-    /// Reads until it holds so many bytes or the input ends.
+    /// Reads until it holds so many bytes or the input ends. Each read takes as much as there is room for.
     pub fn fill<R: Room>(&mut self, room: &mut R, need: usize) -> Result<(), Fault>
         requires ready { IsReadyIn Capture (R.state room.old) }
         requires few { need ≤ 4096 }
