@@ -1,9 +1,9 @@
 -- What the lanes of a vector of `i64` hold, in whole numbers, and how great they get.
-use Rattle.std.proofs.Common.{◌≡◌, ℕ, ◌+◌, ◌*◌, ◌-◌, ◌%◌, ◌<◌, ◌≤◌, ◌^◌, zero, suc, negsuc, Bool, true, false, cond, List, [], ◌∷◌, length, get_or, map, replicate, ℤ, pos, ◌+ℤ◌, ◌-ℤ◌, ◌*ℤ◌, FitsSigned, to_z, of_z, to_z-of_z, refl, ap, ◌∙◌, arith, unsigned_abs}
+use Rattle.std.proofs.Common.{◌≡◌, ℕ, ◌+◌, ◌*◌, ◌-◌, ◌%◌, ◌<◌, ◌≤◌, ◌^◌, zero, suc, negsuc, Bool, true, false, cond, List, [], ◌∷◌, length, get_or, map, replicate, ℤ, pos, ◌+ℤ◌, ◌-ℤ◌, ◌*ℤ◌, FitsSigned, to_z, of_z, to_z-of_z, refl, ap, ◌∙◌, arith, unsigned_abs, lit<}
 use Rattle.std.specs.Int.{w64}
 use Rattle.std.specs.Simd.Lanes.{zip2, Each1, Each2, sel_l, top}
 use Rattle.std.proofs.lemmas.Simd.{Each1-from_get_or, Each2-of, get_or-replicate, length-replicate, length-zip2, get_or-zip2}
-use Rattle.std.proofs.lemmas.Int.{ints, clamps, wrapping_add_is, wrapping_sub_is, wrapping_mul_is, int_wrap_fits, fits_signed_from_abs}
+use Rattle.std.proofs.lemmas.Int.{ints, clamps, wrapping_add_is, wrapping_sub_is, wrapping_mul_is, int_wrap_fits, fits_signed_from_abs, unsigned_abs-mul}
 use Rattle.std.proofs.lemmas.List.Elements.{All-map}
 use Rattle.relay_num.proofs.Signed.{signed, one_part, size-product, size-sum, size-difference}
 use lib.Signed.{shr_z, lt_z}
@@ -35,8 +35,38 @@ wrapped_sum x y b = wrapping_add_is w64 x y (fits_signed_from_abs w64 x (omega (
 pub wrapped_difference : (x y : ℤ) → Both (2 ^ 62) (2 ^ 62) x y → to_z w64 ((of_z w64 x + (2 ^ 64 - of_z w64 y)) % 2 ^ 64) ≡ x -ℤ y
 wrapped_difference x y b = wrapping_sub_is w64 x y (fits_signed_from_abs w64 x (omega (arith, b.left))) (fits_signed_from_abs w64 y (omega (arith, b.right))) ∙ int_wrap_fits w64 (x -ℤ y) (fits_signed_from_abs w64 (x -ℤ y) (size-difference x y (2 ^ 62) (2 ^ 62) b.left b.right))
 
-pub wrapped_product : (x y : ℤ) → Both (2 ^ 40) (2 ^ 20) x y → to_z w64 ((of_z w64 x * of_z w64 y) % 2 ^ 64) ≡ x *ℤ y
-wrapped_product x y b = wrapping_mul_is w64 x y (fits_signed_from_abs w64 x (omega (arith, b.left))) (fits_signed_from_abs w64 y (omega (arith, b.right))) ∙ int_wrap_fits w64 (x *ℤ y) (fits_signed_from_abs w64 (x *ℤ y) (omega (arith, size-product x y (2 ^ 40) (2 ^ 20) b.left b.right)))
+pub wrapped_product : (m n : ℕ) → m ≤ 2 ^ 63 → n ≤ 2 ^ 63 → m * n ≤ 2 ^ 63 → (x y : ℤ) → Both m n x y → to_z w64 ((of_z w64 x * of_z w64 y) % 2 ^ 64) ≡ x *ℤ y
+wrapped_product m n mx nx both x y b =
+    wrapping_mul_is w64 x y (fits_signed_from_abs w64 x (omega (arith, b.left))) (fits_signed_from_abs w64 y (omega (arith, b.right)))
+    ∙ int_wrap_fits w64 (x *ℤ y) (fits_signed_from_abs w64 (x *ℤ y) (omega (arith, size-product x y m n b.left b.right)))
+
+-- the lanes of a vector are the numbers that it was made of
+pub read_back : (xs : List ℤ) → Each1 (FitsSigned w64) xs → map (to_z w64) (map (of_z w64) xs) ≡ xs
+read_back [] h = refl
+read_back (x ∷ xs) h = ap (λ z. z ∷ map (to_z w64) (map (of_z w64) xs)) (to_z-of_z h.0) ∙ ap (λ zs. x ∷ zs) (read_back xs h.1)
+
+-- up by 32 bits, and down again
+up_by_half : (x : ℤ) → unsigned_abs x < 2 ^ 31 → to_z w64 ((of_z w64 x * 2 ^ 32) % 2 ^ 64) ≡ x *ℤ pos (2 ^ 32)
+up_by_half x h =
+    wrapping_mul_is w64 x (pos (2 ^ 32)) (fits_signed_from_abs w64 x (omega (arith, h))) (fits_signed_from_abs w64 (pos (2 ^ 32)) (lit< tt))
+    ∙ int_wrap_fits w64 (x *ℤ pos (2 ^ 32)) (fits_signed_from_abs w64 (x *ℤ pos (2 ^ 32)) (omega (arith, h, unsigned_abs-mul x (pos (2 ^ 32)))))
+
+down_by_half : (x : ℤ) → shr_z (x *ℤ pos (2 ^ 32)) (2 ^ 32) ≡ x
+down_by_half (pos n) = ap pos (omega arith)
+down_by_half (negsuc n) =
+    let up : negsuc n *ℤ pos (2 ^ 32) ≡ negsuc (n * 2 ^ 32 + (2 ^ 32 - 1)) = omega (arith, signed) in
+    rw up (ap negsuc (omega arith))
+
+kept_lane : (x : ℤ) → unsigned_abs x < 2 ^ 31 → to_z w64 (of_z w64 (shr_z (to_z w64 ((of_z w64 x * 2 ^ 32) % 2 ^ 64)) (2 ^ 32))) ≡ x
+kept_lane x h = rw (up_by_half x h, down_by_half x) (to_z-of_z (fits_signed_from_abs w64 x (omega (arith, h))))
+
+pub kept_lanes : (xs : List ℤ) (n : ℕ) → length xs ≡ n → Each1 (λ x. unsigned_abs x < 2 ^ 31) xs
+    → map (to_z w64) (zip2 (λ m k. of_z w64 (shr_z (to_z w64 m) (2 ^ k))) (zip2 (λ m k. (m * 2 ^ k) % 2 ^ 64) (map (of_z w64) xs) (replicate n 32)) (replicate n 32)) ≡ xs
+kept_lanes [] n e h = refl
+kept_lanes (x ∷ xs) zero e h = absurd (omega (arith, e))
+kept_lanes (x ∷ xs) (suc n) e h =
+    ap (λ z. z ∷ map (to_z w64) (zip2 (λ m k. of_z w64 (shr_z (to_z w64 m) (2 ^ k))) (zip2 (λ m k. (m * 2 ^ k) % 2 ^ 64) (map (of_z w64) xs) (replicate n 32)) (replicate n 32))) (kept_lane x h.0)
+    ∙ ap (λ zs. x ∷ zs) (kept_lanes xs n (omega (arith, e)) h.1)
 
 pub AllBelow-replicate : (n : ℕ) (k : ℤ) (m : ℕ) → unsigned_abs k < m → AllBelow (replicate n k) m
 AllBelow-replicate n k m h i d lt = rw (get_or-replicate n i k d (omega (arith, length-replicate n k))) h

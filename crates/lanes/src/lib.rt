@@ -43,6 +43,27 @@ pub fn multiple8(a: &[i64; 8], k: i64) -> [i64; 8]
     (i64x8::from_array(*a) * i64x8::splat(k)).to_array()
 }
 
+/// The same vector, whose lanes are below 2^31 in size. The shifts cost nothing: the compiler sees by them that each
+/// lane has 32 bits, and leaves them out.
+#[inline(always)]
+fn short(a: i64x8) -> i64x8
+    requires { AllBelow a (2 ^ 31) }
+    ensures { result ≡ a }
+{
+    (a << 32i64) >> 32i64
+}
+
+/// Each lane times `k`, as `multiple8`, in one instruction for two lanes in place of eight. Condition: the values and
+/// `k` are below 2^31 in size.
+#[inline(always)]
+pub fn short_multiple8(a: &[i64; 8], k: i64) -> [i64; 8]
+    requires a { AllBelow a.now (2 ^ 31) }
+    requires k { unsigned_abs k < 2 ^ 31 }
+    ensures { result ≡ multiples a.now k }
+{
+    (short(i64x8::from_array(*a)) * short(i64x8::splat(k))).to_array()
+}
+
 /// Each lane divided by `2 ^ bits`, rounded down, also below 0. Condition: the values are below 2^62 in size,
 /// and `bits` is at most 62.
 #[inline(always)]
