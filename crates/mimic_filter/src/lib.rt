@@ -11,7 +11,7 @@ ghost use Rattle.std.specs.Int.RustNames.{unsigned_abs};
 ghost use Rattle.relay_num.specs.Bounds.{AllBelow, value_bound};
 ghost use Rattle.mimic_filter.specs.Mimic.{filtered_lanes};
 
-use lanes::{at_least8, at_most8, difference8, floor_shift8, multiple8};
+use lanes::{at_least8, at_most8, difference8, floor_shift8, short_multiple8};
 use relay_num::MOST_VALUE;
 
 #[cfg(test)]
@@ -30,7 +30,7 @@ pub fn mimic8(a: i64, b: i64, now: &[i64; 8], before: &[i64; 8]) -> [i64; 8]
     requires before { AllBelow before.now value_bound }
     ensures { result ≡ filtered_lanes a b now.now before.now }
 {
-    let step = difference8(&multiple8(now, a), &multiple8(before, b));
+    let step = difference8(&short_multiple8(now, a), &short_multiple8(before, b));
     let filtered = floor_shift8(&step, FACTOR_BITS);
     at_least8(&at_most8(&filtered, MOST_VALUE), -MOST_VALUE)
 }

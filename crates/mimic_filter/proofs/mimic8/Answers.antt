@@ -16,31 +16,31 @@ small_step a b now before same h k x y =
 
 pub difference8-step-requires-clause-a : goal.difference8-step-requires-clause-a
 difference8-step-requires-clause-a c =
-    rw (c.multiple8.ensures, to_z-of_z c.ranges.a) (AllBelow-weaker _ (2 ^ 28 * 65537) (2 ^ 62) (AllBelow-multiples c.args.now.now c.args.a (2 ^ 28) 65537 c.requires.now (omega (arith, c.requires.a))) (lit≤ tt))
+    rw (c.short_multiple8.ensures, to_z-of_z c.ranges.a) (AllBelow-weaker _ (2 ^ 28 * 65537) (2 ^ 62) (AllBelow-multiples c.args.now.now c.args.a (2 ^ 28) 65537 c.requires.now (omega (arith, c.requires.a))) (lit≤ tt))
 
 pub difference8-step-requires-clause-b : goal.difference8-step-requires-clause-b
 difference8-step-requires-clause-b c =
-    rw (c.multiple8-2.ensures, to_z-of_z c.ranges.b) (AllBelow-weaker _ (2 ^ 28 * 65537) (2 ^ 62) (AllBelow-multiples c.args.before.now c.args.b (2 ^ 28) 65537 c.requires.before (omega (arith, c.requires.b))) (lit≤ tt))
+    rw (c.short_multiple8-2.ensures, to_z-of_z c.ranges.b) (AllBelow-weaker _ (2 ^ 28 * 65537) (2 ^ 62) (AllBelow-multiples c.args.before.now c.args.b (2 ^ 28) 65537 c.requires.before (omega (arith, c.requires.b))) (lit≤ tt))
 
 pub floor_shift8-filtered-requires-clause-a : goal.floor_shift8-filtered-requires-clause-a
 floor_shift8-filtered-requires-clause-a c =
-    rw (c.difference8-step.ensures, c.multiple8.ensures, c.multiple8-2.ensures, to_z-of_z c.ranges.a, to_z-of_z c.ranges.b)
+    rw (c.difference8-step.ensures, c.short_multiple8.ensures, c.short_multiple8-2.ensures, to_z-of_z c.ranges.a, to_z-of_z c.ranges.b)
     (small_step c.args.a c.args.b c.args.now.now c.args.before.now (omega arith) c.requires.a c.requires.b c.requires.now c.requires.before)
 
 pub at_most8-requires : goal.at_most8-requires
 at_most8-requires c =
-    rw (c.floor_shift8-filtered.ensures, c.difference8-step.ensures, c.multiple8.ensures, c.multiple8-2.ensures, to_z-of_z c.ranges.a, to_z-of_z c.ranges.b)
+    rw (c.floor_shift8-filtered.ensures, c.difference8-step.ensures, c.short_multiple8.ensures, c.short_multiple8-2.ensures, to_z-of_z c.ranges.a, to_z-of_z c.ranges.b)
     (AllBelow-floor _ 1024 (2 ^ 62) (small_step c.args.a c.args.b c.args.now.now c.args.before.now (omega arith) c.requires.a c.requires.b c.requires.now c.requires.before))
 
 pub at_least8-requires : goal.at_least8-requires
 at_least8-requires c =
     let most : c.at_most8.result ≡ map (λ x. int_min x (pos 268435455)) c.floor_shift8-filtered.result = c.at_most8.ensures in
-    rw (most, c.floor_shift8-filtered.ensures, c.difference8-step.ensures, c.multiple8.ensures, c.multiple8-2.ensures, to_z-of_z c.ranges.a, to_z-of_z c.ranges.b)
+    rw (most, c.floor_shift8-filtered.ensures, c.difference8-step.ensures, c.short_multiple8.ensures, c.short_multiple8-2.ensures, to_z-of_z c.ranges.a, to_z-of_z c.ranges.b)
     (AllBelow-min _ (pos 268435455) (2 ^ 62) (AllBelow-floor _ 1024 (2 ^ 62) (small_step c.args.a c.args.b c.args.now.now c.args.before.now (omega arith) c.requires.a c.requires.b c.requires.now c.requires.before)) (omega arith))
 
 pub returns : goal.returns
 returns c =
     let least : c.at_least8.result ≡ map (λ x. int_max x (neg_ℤ (pos 268435455))) c.at_most8.result = c.at_least8.ensures in
     let most : c.at_most8.result ≡ map (λ x. int_min x (pos 268435455)) c.floor_shift8-filtered.result = c.at_most8.ensures in
-    rw (least, most, c.floor_shift8-filtered.ensures, c.difference8-step.ensures, c.multiple8.ensures, c.multiple8-2.ensures, to_z-of_z c.ranges.a, to_z-of_z c.ranges.b)
+    rw (least, most, c.floor_shift8-filtered.ensures, c.difference8-step.ensures, c.short_multiple8.ensures, c.short_multiple8-2.ensures, to_z-of_z c.ranges.a, to_z-of_z c.ranges.b)
     (filter_by_lane c.args.a c.args.b c.args.now.now c.args.before.now)
