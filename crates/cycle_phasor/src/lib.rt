@@ -19,7 +19,7 @@ ghost use Rattle.relay_num.specs.Bounds.{AllBelow, sum_bound, value_bound};
 ghost use Rattle.lanes.specs.Lanes.{sums, multiples};
 ghost use Rattle.cycle_phasor.specs.Sliding.{values_left, slid, floored};
 
-use lanes::{difference8, multiple8, sum8};
+use lanes::{difference8, short_multiple8, sum8};
 use relay_num::{Cx, PHASOR_BITS, floor_shift, wave};
 
 #[cfg(test)]
@@ -58,7 +58,7 @@ fn moved(totals: &[i64; 8], step: &[i64; 8], weight: i64) -> [i64; 8]
     requires totals { AllBelow (sums totals.now (multiples step.now weight)) sum_bound }
     ensures { result ≡ sums totals.now (multiples step.now weight) }
 {
-    sum8(totals, &multiple8(step, weight))
+    sum8(totals, &short_multiple8(step, weight))
 }
 
 impl Slider {

@@ -1,5 +1,5 @@
 //! A window of samples whose numbers follow one another, in a ring, and the sums that slide along it.
-ghost use Rattle.std.specs.Prelude.{ℕ, ◌≡◌, ◌+◌, ◌≤◌, ◌^◌, ◌⊎◌, ◌==◌, ◌++◌, ◌∷◌, if◌then◌else◌, []};
+ghost use Rattle.std.specs.Prelude.{ℕ, ◌≡◌, ◌+◌, ◌%◌, ◌<◌, ◌≤◌, ◌^◌, ◌⊎◌, ◌==◌, ◌++◌, ◌∷◌, if◌then◌else◌, []};
 ghost use Rattle.circular_buffer.specs.Buffer.{keep_last};
 ghost use Rattle.relay_num.specs.Bounds.{AllBelow, value_bound};
 ghost use Rattle.cycle_phasor.specs.Sliding.{values_left};
@@ -52,9 +52,21 @@ fn slide<L: Ledger>(
     ensures items { ring.new.items ≡ keep_last slider.old.n (ring.old.items ++ values.now ∷ []) }
     ensures cost { steps.new ≡ steps.old + 1 }
 {
-    let place = number % u64::from(slider.n);
     let old = ring.push(*values, steps);
-    slider.slide(place as u32, values, old.as_ref());
+    slider.slide(place_of(slider.n, number), values, old.as_ref());
+}
+
+/// The place of a number in the cycle. With the cycle's length written out no division is needed.
+fn place_of(n: u32, number: u64) -> u32
+    requires { (n ≡ 80) ⊎ (n ≡ 96) }
+    ensures value { result ≡ number % n }
+    ensures within { result < n }
+{
+    if n == 96 {
+        (number % 96) as u32
+    } else {
+        (number % 80) as u32
+    }
 }
 
 /// Empties the window where this number doesn't follow.
