@@ -61,6 +61,22 @@ fn moved(totals: &[i64; 8], step: &[i64; 8], weight: i64) -> [i64; 8]
     sum8(totals, &short_multiple8(step, weight))
 }
 
+/// The cosine and the sine at a place of the cycle. With the cycle's length written out it is asked once, and not at
+/// each step of `wave`.
+fn weights(n: u32, place: u32) -> (i64, i64)
+    requires n { (n ≡ 80) ⊎ (n ≡ 96) }
+    requires place { place < n }
+    ensures cosine { result.0 ≡ cosine n place }
+    ensures sine { result.1 ≡ sine n place }
+    ensures size { (unsigned_abs result.0 ≤ 16384) × (unsigned_abs result.1 ≤ 16384) }
+{
+    if n == 96 {
+        wave(96, place)
+    } else {
+        wave(80, place)
+    }
+}
+
 impl Slider {
     /// An empty window for `n` samples a cycle, 80 or 96.
     pub fn new(n: u32) -> Slider
@@ -96,7 +112,7 @@ impl Slider {
         ensures im { self.new.im ≡ slid self.old.im (neg_ℤ (sine self.old.n place)) new.now (values_left (option_copied old.entry)) }
     {
         let step = difference8(new, &values_or_zeros(old));
-        let (cosine, sine) = wave(self.n, place);
+        let (cosine, sine) = weights(self.n, place);
         self.re = moved(&self.re, &step, cosine);
         self.im = moved(&self.im, &step, -sine);
         if self.count < self.n {

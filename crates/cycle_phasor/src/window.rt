@@ -52,8 +52,11 @@ fn slide<L: Ledger>(
     ensures items { ring.new.items ≡ keep_last slider.old.n (ring.old.items ++ values.now ∷ []) }
     ensures cost { steps.new ≡ steps.old + 1 }
 {
-    let old = ring.push(*values, steps);
-    slider.slide(place_of(slider.n, number), values, old.as_ref());
+    let place = place_of(slider.n, number);
+    // Copied first: behind a reference they would be read again after the ring is written.
+    let values = *values;
+    let old = ring.push(values, steps);
+    slider.slide(place, &values, old.as_ref());
 }
 
 /// The place of a number in the cycle. With the cycle's length written out no division is needed.

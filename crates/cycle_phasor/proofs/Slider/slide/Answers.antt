@@ -18,9 +18,9 @@ moved-self-requires-2-clause-step c =
 
 pub moved-self-requires-clause-totals : goal.moved-self-requires-clause-totals
 moved-self-requires-clause-totals c =
-    let f : FitsSigned w64 c.wave-cosine.result.0 = search rules in
-    rw (to_z-of_z f, c.wave-cosine.ensures.cosine, c.difference8-step.ensures, c.values_or_zeros.ensures) c.requires.re
+    let f : FitsSigned w64 c.weights-cosine.result.0 = search rules in
+    rw (to_z-of_z f, c.weights-cosine.ensures.cosine, c.difference8-step.ensures, c.values_or_zeros.ensures) c.requires.re
 
 pub moved-self-requires-2-clause-totals : goal.moved-self-requires-2-clause-totals
 moved-self-requires-2-clause-totals c =
-    rw (minus_is _ c.wave-cosine.ensures.size.1, c.wave-cosine.ensures.sine, c.difference8-step.ensures, c.values_or_zeros.ensures) c.requires.im
+    rw (minus_is _ c.weights-cosine.ensures.size.1, c.weights-cosine.ensures.sine, c.difference8-step.ensures, c.values_or_zeros.ensures) c.requires.im

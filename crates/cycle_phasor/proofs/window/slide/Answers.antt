@@ -10,14 +10,14 @@ slide-requires-clause-re g c =
     let n : ℕ = c.args.slider.now.n in
     let some : 0 < n = omega (arith, c.requires.n) in
     let moved = moves (real_weight n) n c.args.number c.args.slider.now.re c.args.ring.now.items c.args.values.now (λ j. real_weight-repeats n j some) (real_weight_bound n) some (omega (arith, c.requires.n)) c.requires.state.few c.requires.state.started (omega arith) c.requires.state.samples (record { eight = omega arith; small = c.requires.values }) c.requires.state.re in
-    rw (c.place_of.ensures.value, c.as_ref.ensures.value, c.push-old.ensures.oldest, c.requires.state.capacity) moved.small
+    rw (c.place_of-place.ensures.value, c.as_ref.ensures.value, c.push-old.ensures.oldest, c.requires.state.capacity) moved.small
 
 pub slide-requires-clause-im : goal.slide-requires-clause-im
 slide-requires-clause-im g c =
     let n : ℕ = c.args.slider.now.n in
     let some : 0 < n = omega (arith, c.requires.n) in
     let moved = moves (imaginary_weight n) n c.args.number c.args.slider.now.im c.args.ring.now.items c.args.values.now (λ j. imaginary_weight-repeats n j some) (imaginary_weight_bound n) some (omega (arith, c.requires.n)) c.requires.state.few c.requires.state.started (omega arith) c.requires.state.samples (record { eight = omega arith; small = c.requires.values }) c.requires.state.im in
-    rw (c.place_of.ensures.value, c.as_ref.ensures.value, c.push-old.ensures.oldest, c.requires.state.capacity) moved.small
+    rw (c.place_of-place.ensures.value, c.as_ref.ensures.value, c.push-old.ensures.oldest, c.requires.state.capacity) moved.small
 
 pub returns-clause-state : goal.returns-clause-state
 returns-clause-state g c =
@@ -34,6 +34,6 @@ returns-clause-state g c =
       count = c.slide.ensures.count ∙ omega (arith, long, c.requires.state.count);
       started = omega (arith, long, c.requires.state.started);
       samples = samples_kept n c.args.ring.now.items c.args.values.now c.requires.state.samples sample;
-      re = rw (c.slide.ensures.re, c.place_of.ensures.value, c.as_ref.ensures.value, c.push-old.ensures.oldest, c.requires.state.capacity) re.sums;
-      im = rw (c.slide.ensures.im, c.place_of.ensures.value, c.as_ref.ensures.value, c.push-old.ensures.oldest, c.requires.state.capacity) im.sums;
+      re = rw (c.slide.ensures.re, c.place_of-place.ensures.value, c.as_ref.ensures.value, c.push-old.ensures.oldest, c.requires.state.capacity) re.sums;
+      im = rw (c.slide.ensures.im, c.place_of-place.ensures.value, c.as_ref.ensures.value, c.push-old.ensures.oldest, c.requires.state.capacity) im.sums;
     })
