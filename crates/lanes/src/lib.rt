@@ -43,18 +43,18 @@ pub fn multiple8(a: &[i64; 8], k: i64) -> [i64; 8]
     (i64x8::from_array(*a) * i64x8::splat(k)).to_array()
 }
 
-/// The same vector, whose lanes are below 2^31 in size. The shifts cost nothing: the compiler sees by them that each
-/// lane has 32 bits, and leaves them out.
+/// The same vector. Condition: its lanes are below 2^31 in size.
 #[inline(always)]
 fn short(a: i64x8) -> i64x8
     requires { AllBelow a (2 ^ 31) }
     ensures { result ≡ a }
 {
+    // The shifts tell the compiler that each lane has 32 bits, and then it leaves them out: it makes a product of two
+    // such vectors in one instruction where 64 bits take eight.
     (a << 32i64) >> 32i64
 }
 
-/// Each lane times `k`, as `multiple8`, in one instruction for two lanes in place of eight. Condition: the values and
-/// `k` are below 2^31 in size.
+/// Each lane times `k`, at less cost than `multiple8`. Condition: the values and `k` are below 2^31 in size.
 #[inline(always)]
 pub fn short_multiple8(a: &[i64; 8], k: i64) -> [i64; 8]
     requires a { AllBelow a.now (2 ^ 31) }
