@@ -20,7 +20,7 @@ use Rattle.line_relay.specs.declared.measured.Measured.{Measured}
 use Rattle.line_relay.specs.declared.loops.Loops.{Loops}
 use Rattle.line_relay.specs.declared.loops.Sides.{Sides}
 use Rattle.line_relay.specs.Inside.{is_to_ground, line_impedance, loop_voltage, loop_current, loop_polarising, loop_sense, has_current, has_shape, is_asked, is_forward, is_reverse, is_load_by, is_load_blocked, is_within_zone, is_inside, holds_of}
-use Rattle.line_relay.specs.FormedLoops.{AreLoops, AreSides, IsLoopOf, loop_at, sense_by, sense_with, sense_in, sense_of_minus, pols_of, pol_at, minus_by, currents_with, candidates_of, holds_formed, is_held}
+use Rattle.line_relay.specs.FormedLoops.{AreLoops, AreSides, IsLoopOf, loop_at, sense_by, sense_with, sense_in, sense_of_minus, pols_of, pol_at, currents_with, candidates_of, holds_formed, is_held}
 use Rattle.line_relay.specs.Decided.{inside_by, inside_masks_by}
 
 -- a zone by its place
@@ -52,7 +52,7 @@ zone_masks-same f g same =
 pub zone_masks-none : (f : ℕ → ℕ → Bool) → ((place lp : ℕ) → lp < 6 → f place lp ≡ false) → zone_masks f ≡ 0 ∷ 0 ∷ 0 ∷ 0 ∷ 0 ∷ []
 zone_masks-none f none = zone_masks-same f (λ place lp. false) none
 
-bit_none : (lp : ℕ) → has_bit lp 0 ≡ false
+pub bit_none : (lp : ℕ) → has_bit lp 0 ≡ false
 bit_none lp = rw (bit_at-zero lp) refl
 
 -- the polarising voltage of a loop

@@ -15,14 +15,14 @@ ghost use Rattle.line_relay.specs.Measured.{measured};
 ghost use Rattle.line_relay.specs.FarBelow.{greatest_by};
 ghost use Rattle.line_relay.specs.FormedLoops.{candidates_of, is_held, shape_mask, part_mask};
 
-use crate::loops::{Loops, Sides, form_loops, form_sides, has_bit};
+use crate::loops::{Loops, Sides, form_sides, has_bit, loops_of};
 use crate::measured::measure;
 use crate::quiet::is_far_below;
 use relay_num::{Cx, Steps};
 use relay_settings::{Dir, LineSettings, QuadSettings, Shape, ZonePart, ZoneSettings};
 use std::sync::ledger::Ledger;
 use supervise::current_allowed;
-use zone_shape::{FormedLoop, is_reverse};
+use zone_shape::{FormedLoop, has_quad, is_reverse};
 
 /// The masks of the loops inside each of five zones, for what is measured where the sample is ready and what
 /// the guards say of it. `greatest` is the greatest part of the phase currents: without a loop that has the least
@@ -82,9 +82,11 @@ fn formed_masks<L: Ledger>(
     if with_current == 0 {
         return [0; 5];
     }
-    let loops = form_loops(settings, &m, polarising, with_current);
+    let zones = settings.zones.as_slice();
+    let mut loops = loops_of(settings, &m, polarising);
+    loops.form(with_current, has_quad(zones));
     let sides = form_sides(settings, n, &m, &loops, with_current);
-    five_masks(settings.zones.as_slice(), &loops, &sides, swing, steps)
+    five_masks(zones, &loops, &sides, swing, steps)
 }
 
 /// The masks of five zones, 0 where there is no such zone.
@@ -152,8 +154,11 @@ fn zone_mask<L: Ledger>(
     if zone.swing_block & swing {
         return 0;
     }
-    let reversed = is_reverse(zone.dir);
     let candidates = candidates(zone.dir, sides);
+    if candidates == 0 {
+        return 0;
+    }
+    let reversed = is_reverse(zone.dir);
     let asked = Asked {
         candidates,
         reversed,

@@ -18,7 +18,7 @@ use loop_impedance::{LoopPairs, loop_pols, loops};
 use relay_num::{Cx, at_least_rms};
 use relay_settings::LineSettings;
 use supervise::load_blocks;
-use zone_shape::{FormedLoop, has_quad};
+use zone_shape::FormedLoop;
 
 /// The loops of a ready sample, each with what all zones ask of it.
 #[derive(Drop)]
@@ -44,14 +44,8 @@ pub struct Sides {
     pub is_load: bool,
 }
 
-/// The loops of what is measured, with this polarising voltage. Of those without the least current nothing more is
-/// formed, since no zone asks for them.
-pub fn form_loops(
-    settings: &LineSettings,
-    m: &Measured,
-    polarising: Option<Cx>,
-    with_current: u8,
-) -> Loops
+/// The loops of what is measured, with this polarising voltage. Nothing more is formed of them yet.
+pub fn loops_of(settings: &LineSettings, m: &Measured, polarising: Option<Cx>) -> Loops
     requires settings { IsLine settings.now }
     requires measured { IsMeasured m.now }
     requires polarising { ForSome polarising (λ p. IsBelow p (2 ^ 32)) }
@@ -63,36 +57,44 @@ pub fn form_loops(
     };
     let pairs = loops(&m.voltages, &m.currents, k0);
     let pols = polarising_of(polarising);
-    let has_quad = has_quad(settings.zones.as_slice());
     Loops {
-        ag: formed(&pairs, &pols, with_current, has_quad, 0),
-        bg: formed(&pairs, &pols, with_current, has_quad, 1),
-        cg: formed(&pairs, &pols, with_current, has_quad, 2),
-        ab: formed(&pairs, &pols, with_current, has_quad, 3),
-        bc: formed(&pairs, &pols, with_current, has_quad, 4),
-        ca: formed(&pairs, &pols, with_current, has_quad, 5),
+        ag: FormedLoop::unformed(pairs.u[0], pairs.i[0], pol_of(&pols, 0)),
+        bg: FormedLoop::unformed(pairs.u[1], pairs.i[1], pol_of(&pols, 1)),
+        cg: FormedLoop::unformed(pairs.u[2], pairs.i[2], pol_of(&pols, 2)),
+        ab: FormedLoop::unformed(pairs.u[3], pairs.i[3], pol_of(&pols, 3)),
+        bc: FormedLoop::unformed(pairs.u[4], pairs.i[4], pol_of(&pols, 4)),
+        ca: FormedLoop::unformed(pairs.u[5], pairs.i[5], pol_of(&pols, 5)),
     }
 }
 
-/// One loop of six.
-fn formed(
-    pairs: &LoopPairs,
-    pols: &Option<[Cx; 6]>,
-    with_current: u8,
-    has_quad: bool,
-    lp: usize,
-) -> FormedLoop
-    requires u { AreLoopsBelow pairs.now.u (2 ^ 31 + 1) }
-    requires i { AreLoopsBelow pairs.now.i (2 ^ 45) }
-    requires pols { ForSome pols.now (λ pols. AreLoopsBelow pols (2 ^ 34)) }
-    requires lp { lp < 6 }
-    ensures { IsLoop (item lp pairs.now.u) (item lp pairs.now.i) (pol_at pols.now lp) result }
+impl Loops {
+    ghost use Rattle.std.specs.Prelude.{Option};
+    ghost use Rattle.relay_num.specs.declared.Cx.{Cx};
+    ghost use Rattle.relay_settings.specs.Settings.{PlainLine};
+    ghost use Rattle.line_relay.specs.declared.measured.Measured.{Measured};
+    ghost use Rattle.line_relay.specs.FormedLoops.{AreLoops};
+
+    /// Forms what the shapes of zones ask of the loops in the mask, where they lie. No zone asks for the others.
+    #[inline(always)]
+    pub fn form(&mut self, with_current: u8, has_quad: bool)
+        ensures { (settings : PlainLine) (m : Measured) (polarising : Option Cx) → AreLoops settings m polarising self.old → AreLoops settings m polarising self.new }
+    {
+        form_if(&mut self.ag, has_bit(with_current, 0), has_quad);
+        form_if(&mut self.bg, has_bit(with_current, 1), has_quad);
+        form_if(&mut self.cg, has_bit(with_current, 2), has_quad);
+        form_if(&mut self.ab, has_bit(with_current, 3), has_quad);
+        form_if(&mut self.bc, has_bit(with_current, 4), has_quad);
+        form_if(&mut self.ca, has_bit(with_current, 5), has_quad);
+    }
+}
+
+/// Forms one loop where it is asked for.
+#[inline(always)]
+fn form_if(formed: &mut FormedLoop, asked: bool, has_quad: bool)
+    ensures { (u i : Cx) (pol : Option Cx) → IsLoop u i pol formed.old → IsLoop u i pol formed.new }
 {
-    let pol = pol_of(pols, lp);
-    if has_bit(with_current, lp) {
-        FormedLoop::of(pairs.u[lp], pairs.i[lp], pol, has_quad)
-    } else {
-        FormedLoop::unformed(pairs.u[lp], pairs.i[lp], pol)
+    if asked {
+        formed.form(has_quad);
     }
 }
 

@@ -18,12 +18,14 @@ pub struct Station {
     lines: Vec<Line>,
     frames: u64,
     heard: u64,
+    /// The place of the line that owned the last sample set that had an owner.
+    owner: usize,
     // A sample set brings a line's number on by less than a second's samples.
     ghost near: { AreSmall last_of lines.items heard },
 }
 
 impl Station {
-    ghost use Rattle.std.specs.Prelude.{ℕ, ◌≡◌, ◌≢◌, ◌<◌, ◌≤◌, ◌^◌, ◌+◌, List, [], ◌∷◌, length, min, Some, None, Option, IfOk, IfSome, IfNone, slice_index_or, true, false};
+    ghost use Rattle.std.specs.Prelude.{ℕ, ◌≡◌, ◌≢◌, ◌<◌, ◌≤◌, ◌^◌, ◌+◌, List, [], ◌∷◌, length, min, Some, None, Option, IfOk, IfSome, IfNone, slice_index_or, IsTrue, true, false};
     ghost use Rattle.std.specs.List.{All};
     ghost use Rattle.relay_settings.specs.Settings.{PlainLine, PlainSettings, plain_settings};
     ghost use Rattle.relay_settings.specs.Ranges.{InRange};
@@ -55,6 +57,7 @@ impl Station {
             lines,
             frames: 0,
             heard: 0,
+            owner: 0,
         })
     }
 
@@ -159,13 +162,41 @@ impl Station {
         let owner = self.place_of(a);
         self.heard += 1;
         let place = owner?;
+        self.owner = place;
         let line = &mut self.lines[place];
         line.take_into(a, burst, steps);
         Some(place)
     }
 
-    /// The place of the line that owns a sample set.
+    /// The place of the line that owns a sample set. Those of a frame mostly have one owner, so the last one is asked first.
     fn place_of(&self, a: &Asdu<'_>) -> Option<usize>
+        ensures within { IfSome result (λ place. place < length (lines_of self.now)) }
+        ensures mine { (settings : PlainSettings) (past : List PlainAsdu) → StandsFor settings past self.now →
+            IfSome result (λ place. (d : PlainLine) → owns (slice_index_or settings.lines place d) (plain_asdu a.now) ≡ true) }
+        ensures none { (settings : PlainSettings) (past : List PlainAsdu) → StandsFor settings past self.now →
+            IfNone result (All (λ line. owns line (plain_asdu a.now) ≡ false) settings.lines) }
+    {
+        if self.owns_at(self.owner, a) {
+            Some(self.owner)
+        } else {
+            self.search(a)
+        }
+    }
+
+    /// Whether a line stands at this place and owns the sample set.
+    fn owns_at(&self, place: usize, a: &Asdu<'_>) -> bool
+        ensures within { IsTrue result → place < length (lines_of self.now) }
+        ensures mine { (settings : PlainSettings) (past : List PlainAsdu) → StandsFor settings past self.now →
+            IsTrue result → (d : PlainLine) → owns (slice_index_or settings.lines place d) (plain_asdu a.now) ≡ true }
+    {
+        match self.lines.get(place) {
+            Some(line) => line.owns(a),
+            None => false,
+        }
+    }
+
+    /// The place of the first line that owns a sample set.
+    fn search(&self, a: &Asdu<'_>) -> Option<usize>
         ensures within { IfSome result (λ place. place < length (lines_of self.now)) }
         ensures mine { (settings : PlainSettings) (past : List PlainAsdu) → StandsFor settings past self.now →
             IfSome result (λ place. (d : PlainLine) → owns (slice_index_or settings.lines place d) (plain_asdu a.now) ≡ true) }

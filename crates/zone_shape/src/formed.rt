@@ -41,7 +41,8 @@ impl FormedLoop {
     ghost use Rattle.zone_shape.specs.Polarising.{IsPolarisedBy};
     ghost use Rattle.zone_shape.specs.Shapes.{has_shape};
 
-    /// A loop that few zones or none will ask for: nothing is formed.
+    /// A loop of which nothing is formed yet.
+    #[inline(always)]
     pub fn unformed(u: Cx, i: Cx, pol: Option<Cx>) -> FormedLoop
         requires u { IsBelow u loop_voltage_bound }
         requires i { IsBelow i loop_current_bound }
@@ -59,21 +60,19 @@ impl FormedLoop {
         }
     }
 
-    /// A loop with what circles ask of it, and where `has_quad` says so what quadrilaterals do.
-    pub fn of(u: Cx, i: Cx, pol: Option<Cx>, has_quad: bool) -> FormedLoop
-        requires u { IsBelow u loop_voltage_bound }
-        requires i { IsBelow i loop_current_bound }
-        requires pol { ForSome pol (λ p. IsBelow p polarising_bound) }
-        ensures u { result.u ≡ u }
-        ensures i { result.i ≡ i }
-        ensures pol { result.pol ≡ pol }
+    /// Forms what circles ask of the loop, and where `has_quad` says so what quadrilaterals do. It is formed where the
+    /// loop lies, out of line, so that it isn't moved.
+    #[inline(never)]
+    pub fn form(&mut self, has_quad: bool)
+        ensures u { self.new.u ≡ self.old.u }
+        ensures i { self.new.i ≡ self.old.i }
+        ensures pol { self.new.pol ≡ self.old.pol }
     {
-        FormedLoop {
-            u,
-            i,
-            pol,
-            impedance: impedance_of(u, i, has_quad),
-            polarised: polarised_of(u, i, pol),
+        if has_quad {
+            self.impedance = Some(LoopImpedance::of(self.u, self.i));
+        }
+        if let Some(pol) = self.pol {
+            self.polarised = Some(Polarised::of(self.u, self.i, pol));
         }
     }
 
@@ -129,31 +128,5 @@ impl FormedLoop {
             }
             None => quad_inside(quad, self.u, towards(reversed, self.i), steps),
         }
-    }
-}
-
-/// What quadrilaterals ask, where one does.
-fn impedance_of(u: Cx, i: Cx, has_quad: bool) -> Option<LoopImpedance>
-    requires u { IsBelow u loop_voltage_bound }
-    requires i { IsBelow i loop_current_bound }
-    ensures { ForSome result (IsImpedance u i) }
-{
-    if has_quad {
-        Some(LoopImpedance::of(u, i))
-    } else {
-        None
-    }
-}
-
-/// What circles ask, where there is a polarising voltage.
-fn polarised_of(u: Cx, i: Cx, pol: Option<Cx>) -> Option<Polarised>
-    requires u { IsBelow u loop_voltage_bound }
-    requires i { IsBelow i loop_current_bound }
-    requires pol { ForSome pol (λ p. IsBelow p polarising_bound) }
-    ensures { ForSome result (IsPolarisedBy u i pol) }
-{
-    match pol {
-        Some(pol) => Some(Polarised::of(u, i, pol)),
-        None => None,
     }
 }

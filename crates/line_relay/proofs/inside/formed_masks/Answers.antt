@@ -15,6 +15,7 @@ pub returns-clause-masks : goal.returns-clause-masks
 unfolding has_current
 returns-clause-masks g c =
     rw (← c.measure-m.ensures.value)
-    (c.five_masks.ensures.masks ∙ rw c.as_slice.ensures.value
+    (c.five_masks.ensures.masks ∙ rw c.as_slice-zones.ensures.value
     (masks_formed c.args.n (plain_line c.args.settings.now) c.measure-m.result c.args.polarising c.args.swing
-    c.current_allowed-with_current.result c.form_loops-loops.result c.form_sides-sides.result c.form_loops-loops.ensures c.form_sides-sides.ensures c.current_allowed-with_current.ensures))
+    c.current_allowed-with_current.result c.form.new.self c.form_sides-sides.result
+    (c.form.ensures (plain_line c.args.settings.now) c.measure-m.result c.args.polarising c.loops_of-loops.ensures) c.form_sides-sides.ensures c.current_allowed-with_current.ensures))

@@ -1,7 +1,7 @@
 use Rattle.std.proofs.Common.{ap, ◌∙◌, arith, get_or}
 use Rattle.sv_frame.specs.Asdu.{plain_asdu}
 use Rattle.station.proofs.StationLemmas.{owns-is, none-next}
-use Rattle.station.proofs.station.Station.place_of.Goals as goal
+use Rattle.station.proofs.station.Station.search.Goals as goal
 
 pub returns-then-owns-clause-mine : goal.returns-then-owns-clause-mine
 returns-then-owns-clause-mine c settings past stands = λ d.

@@ -3,7 +3,7 @@ use Rattle.relay_settings.specs.Settings.{PlainSettings, PlainLine}
 use Rattle.sv_frame.specs.Asdu.{PlainAsdu, plain_asdu}
 use Rattle.line_bank.specs.Owners.{owns}
 use Rattle.station.specs.KeptStation.{StandsFor}
-use Rattle.station.proofs.station.Station.place_of.Given as goal
+use Rattle.station.proofs.station.Station.search.Given as goal
 
 abbrev pub invariant-loop-place : goal.invariant-loop-place
 invariant-loop-place l = (settings : PlainSettings) (past : List PlainAsdu) → StandsFor settings past l.self →
