@@ -25,7 +25,7 @@ pub struct Station {
 }
 
 impl Station {
-    ghost use Rattle.std.specs.Prelude.{ℕ, ◌≡◌, ◌≢◌, ◌<◌, ◌≤◌, ◌^◌, ◌+◌, List, [], ◌∷◌, length, min, Some, None, Option, IfOk, IfSome, IfNone, slice_index_or, IsTrue, true, false};
+    ghost use Rattle.std.specs.Prelude.{ℕ, ◌≡◌, ◌≢◌, ◌<◌, ◌≤◌, ◌^◌, ◌+◌, List, [], ◌∷◌, length, min, Some, None, Option, IfOk, IfSome, IfNone, slice_index_or, true, false};
     ghost use Rattle.std.specs.List.{All};
     ghost use Rattle.relay_settings.specs.Settings.{PlainLine, PlainSettings, plain_settings};
     ghost use Rattle.relay_settings.specs.Ranges.{InRange};
@@ -185,13 +185,14 @@ impl Station {
 
     /// Whether a line stands at this place and owns the sample set.
     fn owns_at(&self, place: usize, a: &Asdu<'_>) -> bool
-        ensures within { IsTrue result → place < length (lines_of self.now) }
+        ensures within { result ≡ true → place < length (lines_of self.now) }
         ensures mine { (settings : PlainSettings) (past : List PlainAsdu) → StandsFor settings past self.now →
-            IsTrue result → (d : PlainLine) → owns (slice_index_or settings.lines place d) (plain_asdu a.now) ≡ true }
+            result ≡ true → (d : PlainLine) → owns (slice_index_or settings.lines place d) (plain_asdu a.now) ≡ true }
     {
-        match self.lines.get(place) {
-            Some(line) => line.owns(a),
-            None => false,
+        if place < self.lines.len() {
+            self.line(place).owns(a)
+        } else {
+            false
         }
     }
 
