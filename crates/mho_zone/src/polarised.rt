@@ -69,7 +69,7 @@ impl Polarised {
         ensures cost { steps.new ≡ steps.old + 1 }
     {
         steps.tick();
-        mul_conj(self.power, z).re - self.along > 0
+        mul_conj(self.power, z).re > self.along
     }
 }
 

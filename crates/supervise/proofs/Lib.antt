@@ -1,3 +1,2 @@
-mod AtLeastLemmas
 mod FuseLemmas
 pub mod NumberedFuseLemmas

@@ -1,6 +1,6 @@
 //! Which loops have the least current.
 
-ghost use Rattle.std.specs.Prelude.{◌≡◌, ◌<◌, ◌≤◌, ◌^◌, ◌⊎◌, [], ◌∷◌};
+ghost use Rattle.std.specs.Prelude.{◌≡◌, ◌<◌, ◌≤◌, ◌⊎◌, [], ◌∷◌};
 ghost use Rattle.relay_num.specs.Bounds.{sequence_bound};
 ghost use Rattle.relay_num.specs.Numbers.{IsBelow, difference, is_at_least};
 ghost use Rattle.loop_impedance.specs.Loops.{ArePhasesBelow, item};
@@ -24,10 +24,10 @@ pub fn current_allowed(i: &[Cx; 3], i0: Cx, n: u32, i_min: u32, i0_min: u32) -> 
     ensures { result ≡ mask (allowed (item 0 i.now) (item 1 i.now) (item 2 i.now) i0 n i_min i0_min) }
 {
     let [a, b, c] = *i;
-    let ground = is_at_least(i0, n, i0_min);
-    let ag = is_at_least(a, n, i_min) & ground;
-    let bg = is_at_least(b, n, i_min) & ground;
-    let cg = is_at_least(c, n, i_min) & ground;
+    let ground = at_least_rms(i0, n, i0_min);
+    let ag = at_least_rms(a, n, i_min) & ground;
+    let bg = at_least_rms(b, n, i_min) & ground;
+    let cg = at_least_rms(c, n, i_min) & ground;
     let ab = between_at_least(a, b, n, i_min);
     let bc = between_at_least(b, c, n, i_min);
     let ca = between_at_least(c, a, n, i_min);
@@ -42,29 +42,7 @@ fn between_at_least(a: Cx, b: Cx, n: u32, least: u32) -> bool
     requires least { least ≤ 100000000 }
     ensures { result ≡ is_at_least (difference a b) n least }
 {
-    is_at_least(difference(a, b), n, least)
-}
-
-/// Whether `p` is at least `least` counts rms, as `at_least_rms` says, mostly without its wide squares.
-///
-/// The rule is that 2048 times the square of the size is at least the square of `bound`. The square of the size is from
-/// one to two times that of the larger part, so 64 parts below `bound` are too few (2048 * 2 is the square of 64), and
-/// 45 parts that come to it are enough (2048 is above the square of 45).
-fn is_at_least(p: Cx, n: u32, least: u32) -> bool
-    requires p { IsBelow p (2 ^ 48) }
-    requires n { (n ≡ 80) ⊎ (n ≡ 96) }
-    requires least { least ≤ 100000000 }
-    ensures { result ≡ is_at_least p n least }
-{
-    let part = p.re.unsigned_abs().max(p.im.unsigned_abs());
-    let bound = u64::from(n) * u64::from(least);
-    if 64 * part < bound {
-        return false;
-    }
-    if 45 * part >= bound {
-        return true;
-    }
-    at_least_rms(p, n, least)
+    at_least_rms(difference(a, b), n, least)
 }
 
 /// The mask of three bits, the lowest first.

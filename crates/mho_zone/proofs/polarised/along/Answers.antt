@@ -1,4 +1,4 @@
-use Rattle.std.proofs.Common.{◌<◌, ◌+◌, ◌*◌, ◌^◌, ◌∙◌, ap, lit≤, arith, rules, FitsSigned, to_z-of_z}
+use Rattle.std.proofs.Common.{◌+◌, ◌*◌, ◌^◌, ◌∙◌, ap, lit≤, arith, rules, FitsSigned, to_z-of_z}
 use Rattle.std.specs.Int.{w128}
 use Rattle.relay_num.specs.declared.Cx.{Cx}
 use Rattle.relay_num.proofs.Wide.{IsBelow-product, IsBelow-weaker, IsBelow-conjugate}

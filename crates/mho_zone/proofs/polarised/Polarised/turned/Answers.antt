@@ -1,6 +1,5 @@
-use Rattle.std.proofs.Common.{◌≡◌, ◌<◌, ◌^◌, ◌∙◌, ap, sym, arith, lit≤, FitsSigned, to_z-of_z}
+use Rattle.std.proofs.Common.{◌^◌, ◌∙◌, ap, sym, arith, lit≤, FitsSigned, to_z-of_z}
 use Rattle.std.specs.Int.{w128}
-use Rattle.relay_num.specs.declared.Cx.{Cx}
 use Rattle.relay_num.specs.Numbers.{opposite}
 use Rattle.relay_num.proofs.Wide.{fits_128, same_parts}
 use Rattle.apparent_impedance.proofs.Powers.{negated, power_turned}
