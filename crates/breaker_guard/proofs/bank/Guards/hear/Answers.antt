@@ -1,10 +1,14 @@
-use Rattle.std.proofs.Common.{◌<◌, arith, length}
+use Rattle.std.proofs.Common.{◌<◌, ◌≤◌, ◌+◌, ◌*◌, ℕ, arith, length, List, Option}
+use Rattle.std.specs.Option.{ForSome}
+use Rattle.std.proofs.lemmas.List.Elements.{All-weaker}
 use Rattle.sv_frame.specs.Asdu.{plain_asdu}
+use Rattle.line_bank.specs.Banks.{AreSmall}
 use Rattle.line_bank.proofs.BankLaws.{heard-next, unheard-next, told-is, no-owner, small-next}
 use Rattle.breaker_guard.specs.GuardLines.{tells_by}
 use Rattle.breaker_guard.specs.Guarding.{listed}
 use Rattle.breaker_guard.specs.KeptGuard.{line_last, front_last}
 use Rattle.breaker_guard.specs.KeptGuards.{Holds}
+use Rattle.breaker_guard.specs.declared.guard.Guard.{Guard}
 use Rattle.breaker_guard.proofs.bank.Guards.hear.Goals as goal
 
 pub returns-in_err-place-clause-none : goal.returns-in_err-place-clause-none
@@ -14,6 +18,18 @@ returns-in_err-place-clause-none g c settings times past stands =
 pub returns-in_err-place-clause-after : goal.returns-in_err-place-clause-after
 returns-in_err-place-clause-after g c settings times past stands =
     unheard-next (Holds settings times) settings.lines past c.args.self.now.lines.items (plain_asdu c.args.a.now) stands (c.in_err-place.ensures.none settings times past stands)
+
+-- what was small is small where one more was heard
+later : (last : Guard → Option ℕ) (held : List Guard) (heard : ℕ) → AreSmall last held heard → AreSmall last held (heard + 1)
+later last held heard near =
+    All-weaker (λ (h : Guard). ForSome (last h) (λ n. n ≤ 4800 * heard)) (λ (h : Guard). ForSome (last h) (λ n. n ≤ 4800 * (heard + 1)))
+    (λ h few n e. (let most : n ≤ 4800 * heard = few n e in omega arith)) held near
+
+pub invariant_of-self : goal.invariant_of-self
+invariant_of-self g c = record {
+  near_line = later line_last c.args.self.now.lines.items c.args.self.now.heard c.args.self.now.near_line;
+  near_front = later front_last c.args.self.now.lines.items c.args.self.now.heard c.args.self.now.near_front;
+}
 
 pub invariant_of-self-2 : goal.invariant_of-self-2
 invariant_of-self-2 g c = record {
