@@ -11,7 +11,7 @@ use Rattle.sv_frame.specs.declared.Reason.TheVariants as reasons
 use Rattle.sv_frame.specs.Elements.{elements}
 use Rattle.sv_frame.specs.Asdu.{PlainAsdu, asdu_of, asdus_of}
 use Rattle.sv_frame.specs.Pdu.{sequence_of}
-use Rattle.sv_frame.specs.Frame.{or_bad}
+use Rattle.sv_frame.specs.Frame.{or_bad, bad, pdu, answer as frame_of}
 use Rattle.sv_frame.specs.Sequence.{asdus_in_sequence}
 use Rattle.sv_frame.proofs.ElementLemmas.{next, stops, full, empty, holds}
 
@@ -124,3 +124,28 @@ pub goes_bad : (left fewer : ℕ) (bytes : List ℕ) (e : Element) (rest : List 
     → None ≡ asdu_of e.contents → said_of left bytes (so_far whole xs) ≡ total → said_of fewer rest None ≡ total
 goes_bad left fewer bytes e rest whole xs total k h is one so_said =
     ap (said_of fewer rest) (sym (with_bad whole xs (asdu_of e.contents) one)) ∙ sym (goes_on left fewer bytes e rest (so_far whole xs) k h is) ∙ so_said
+
+-- ---- a sequence of one
+
+module _ (count : ℕ) (bytes : List ℕ) (one : count ≡ 1) where
+  from_one : (read : Result (List PlainAsdu) Reason) → said_of 1 bytes (Some []) ≡ read → frame_of read ≡ frame_of (asdus_in_sequence count bytes)
+  from_one read h = rw one (ap frame_of (sym h ∙ starts 1 bytes))
+
+  pub one_breaks : element_at bytes ≡ None → bad reasons.Count ≡ frame_of (asdus_in_sequence count bytes)
+  one_breaks h = from_one (Err reasons.Count) (breaks 1 0 bytes (Some []) refl h)
+
+  module _ (e : Element) (rest : List ℕ) (h : element_at bytes ≡ Some (e, rest)) where
+    pub one_other : e.tag ≢ 0x30 → bad reasons.Count ≡ frame_of (asdus_in_sequence count bytes)
+    one_other differ = from_one (Err reasons.Count) (other_tag 1 0 bytes e rest (Some []) refl h differ)
+
+    pub one_passes : e.tag ≡ 0x30 → 0 < length rest → bad reasons.Count ≡ frame_of (asdus_in_sequence count bytes)
+    one_passes is some = from_one (Err reasons.Count) (goes_on 1 0 bytes e rest (Some []) refl h is ∙ passes 0 rest _ refl some)
+
+    one_ends : e.tag ≡ 0x30 → rest ≡ [] → (read : Option PlainAsdu) → read ≡ asdu_of e.contents → frame_of (or_bad reasons.Asdu (and_one (Some []) read)) ≡ frame_of (asdus_in_sequence count bytes)
+    one_ends is none read so = from_one (or_bad reasons.Asdu (and_one (Some []) read)) (goes_on 1 0 bytes e rest (Some []) refl h is ∙ (ends 0 rest _ refl none ∙ ap (λ r. or_bad reasons.Asdu (and_one (Some []) r)) (sym so)))
+
+    pub one_good : e.tag ≡ 0x30 → rest ≡ [] → (x : PlainAsdu) → Some x ≡ asdu_of e.contents → pdu (x ∷ []) ≡ frame_of (asdus_in_sequence count bytes)
+    one_good is none x so = one_ends is none (Some x) so
+
+    pub one_bad : e.tag ≡ 0x30 → rest ≡ [] → None ≡ asdu_of e.contents → bad reasons.Asdu ≡ frame_of (asdus_in_sequence count bytes)
+    one_bad is none so = one_ends is none None so

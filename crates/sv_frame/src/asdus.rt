@@ -1,5 +1,7 @@
 //! ASDUs out of the bytes that hold them, each byte looked at once.
-ghost use Rattle.std.specs.Prelude.{◌≡◌, ◌+◌, ◌*◌, ◌≤◌, length, [], OnOk};
+ghost use Rattle.sv_frame.specs.Frame.{answer};
+ghost use Rattle.sv_frame.specs.Answer.{sequence_view};
+ghost use Rattle.std.specs.Prelude.{◌≡◌, ◌+◌, ◌*◌, ◌≤◌, length, [], ◌∷◌, OnOk};
 ghost use Rattle.std.specs.Option.{option_map};
 ghost use Rattle.sv_frame.specs.Answer.{seen};
 ghost use Rattle.sv_frame.specs.Asdu.{plain_asdu, plain_asdus, asdu_of};
@@ -7,7 +9,7 @@ ghost use Rattle.sv_frame.specs.Sequence.{asdus_in_sequence};
 
 use crate::Reason;
 use crate::fields::Fields;
-use crate::lent::Asdu;
+use crate::lent::{Asdu, AsduSequence};
 use crate::usual::usual_asdu;
 use arrayvec::ArrayVec;
 use ber_fields::head;
@@ -42,7 +44,7 @@ fn gathered_asdu<'a, L: Ledger>(text: &'a [u8], steps: &mut Steps<L>) -> Option<
 
 /// The sample sets of a sequence of exactly `count` elements of ASDUs, or the layer that fails. What
 /// `found` holds after an `Err` isn't to be used.
-pub(crate) fn asdus_of<'a, L: Ledger>(
+fn asdus_of<'a, L: Ledger>(
     count: usize,
     bytes: &'a [u8],
     steps: &mut Steps<L>,
@@ -81,4 +83,47 @@ pub(crate) fn asdus_of<'a, L: Ledger>(
         return Err(Reason::Count);
     }
     if whole { Ok(()) } else { Err(Reason::Asdu) }
+}
+
+impl<'a> AsduSequence<'a> {
+    /// The sample set of a sequence of one, without a list for it, or the layer that fails.
+    #[inline(always)]
+    pub fn only<L: Ledger>(&self, steps: &mut Steps<L>) -> Result<Asdu<'a>, Reason>
+        requires one { self.now.count ≡ 1 }
+        ensures exact { answer (seen (λ asdu. plain_asdu asdu ∷ []) result) ≡ sequence_view self.now }
+        ensures cost { steps.new ≤ steps.old + 17 }
+    {
+        let Ok(text) = head(self.bytes, 0, steps) else {
+            return Err(Reason::Count);
+        };
+        if text.tag != 0x30 {
+            return Err(Reason::Count);
+        }
+        if text.end < self.bytes.len() {
+            return Err(Reason::Count);
+        }
+        let fields = &self.bytes[text.start..text.end];
+        match usual_asdu(fields) {
+            Some(asdu) => Ok(asdu),
+            None => match gathered_asdu(fields, steps) {
+                Some(asdu) => Ok(asdu),
+                None => Err(Reason::Asdu),
+            },
+        }
+    }
+
+    /// Puts the sample sets into `found`, which is empty, or answers the layer that fails. What `found` holds after an
+    /// `Err` isn't to be used.
+    pub fn put_into<L: Ledger>(
+        &self,
+        steps: &mut Steps<L>,
+        found: &mut ArrayVec<Asdu<'a>, 16>,
+    ) -> Result<(), Reason>
+        requires empty { found.old.items ≡ [] }
+        ensures exact { answer (seen (λ _. plain_asdus found.new.items) result) ≡ sequence_view self.now }
+        ensures cost { steps.new ≤ steps.old + 17 * self.now.count }
+        ensures count { OnOk result (length found.new.items ≡ self.now.count) }
+    {
+        asdus_of(self.count, self.bytes, steps, found)
+    }
 }

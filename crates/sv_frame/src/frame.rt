@@ -1,18 +1,15 @@
 //! The frame: what stands in front of the APDU, and the layers one after the other.
-ghost use Rattle.std.specs.Prelude.{◌≡◌, ◌+◌, ◌*◌, ◌<◌, ◌≤◌, length, min, [], IfSome, IfOk, OnOk};
+ghost use Rattle.std.specs.Prelude.{◌≡◌, ◌+◌, ◌<◌, ◌≤◌, length, min, IfSome, IfOk};
 ghost use Rattle.std.specs.Option.{option_map};
 ghost use Rattle.byteorder.specs.Endian.{big_number};
-ghost use Rattle.sv_frame.specs.Asdu.{plain_asdus};
 ghost use Rattle.sv_frame.specs.Frame.{begins, untagged, payload_of, apdu_of, asdus_in};
 ghost use Rattle.sv_frame.specs.Sequence.{asdus_in_parts};
-ghost use Rattle.sv_frame.specs.Views.{plain_parts};
+ghost use Rattle.sv_frame.specs.Views.{plain_parts, asdus_by};
 ghost use Rattle.sv_frame.specs.Answer.{seen};
 
 use crate::Reason;
-use crate::asdus::asdus_of;
-use crate::lent::{Asdu, Parts};
+use crate::lent::{AsduSequence, Parts};
 use crate::pdu::pdu_of;
-use arrayvec::ArrayVec;
 use byteorder::{BigEndian, ByteOrder};
 use relay_num::Steps;
 use std::sync::ledger::Ledger;
@@ -87,43 +84,36 @@ fn number_of(bytes: &[u8]) -> u64
     BigEndian::read_uint(bytes, bytes.len())
 }
 
-/// The sample sets of as many elements as the count says, from one to sixteen.
-fn asdus_in_parts<'a, L: Ledger>(
-    parts: Parts<'a>,
-    steps: &mut Steps<L>,
-    found: &mut ArrayVec<Asdu<'a>, 16>,
-) -> Result<(), Reason>
+/// The bytes of as many ASDUs as the count says, from one to sixteen.
+fn sequence_of<'a>(parts: Parts<'a>) -> Result<AsduSequence<'a>, Reason>
     requires size { (0 < length parts.count.now) × (length parts.count.now ≤ 4) }
-    requires empty { found.old.items ≡ [] }
-    ensures exact { seen (λ _. plain_asdus found.new.items) result ≡ asdus_in_parts (plain_parts parts.entry) }
-    ensures cost { steps.new ≤ steps.old + 17 * 16 }
-    ensures each { OnOk result (steps.new ≤ steps.old + 17 * length found.new.items) }
+    ensures exact { asdus_by result ≡ asdus_in_parts (plain_parts parts.entry) }
 {
     let count = number_of(parts.count);
     if count == 0 || count > 16 {
         return Err(Reason::Count);
     }
-    asdus_of(count as usize, parts.sequence, steps, found)
+    Ok(AsduSequence {
+        count: count as usize,
+        bytes: parts.sequence,
+    })
 }
 
-/// The sample sets, or the first layer that fails. What `found` holds after an `Err` isn't to be used.
+/// The bytes of the ASDUs, or the first layer in front of them that fails.
 #[tactic(auto, unfolding(crate::specs::Frame::asdus_in))]
-pub(crate) fn asdus_in<'a, L: Ledger>(
+pub(crate) fn sequence_in<'a, L: Ledger>(
     before: usize,
     payload: &'a [u8],
     captured: u32,
     steps: &mut Steps<L>,
-    found: &mut ArrayVec<Asdu<'a>, 16>,
-) -> Result<(), Reason>
+) -> Result<AsduSequence<'a>, Reason>
     requires size { before + length payload.now ≡ min captured 2048 }
-    requires empty { found.old.items ≡ [] }
-    ensures exact { seen (λ _. plain_asdus found.new.items) result ≡ asdus_in before captured payload.now }
-    ensures cost { steps.new ≤ steps.old + 4 + 17 * 16 }
-    ensures each { OnOk result (steps.new ≤ steps.old + 4 + 17 * length found.new.items) }
+    ensures exact { asdus_by result ≡ asdus_in before captured payload.now }
+    ensures cost { steps.new ≤ steps.old + 4 }
 {
     let apdu = apdu_of(before, payload, captured)?;
     let Some(parts) = pdu_of(apdu, steps) else {
         return Err(Reason::Pdu);
     };
-    asdus_in_parts(parts, steps, found)
+    sequence_of(parts)
 }

@@ -57,6 +57,16 @@ impl Default for Asdu<'_> {
     }
 }
 
+/// The bytes that hold the sample sets of a frame, none of them read yet, and how many there have to be: from one to
+/// sixteen.
+#[derive(Clone, Copy, Debug)]
+pub struct AsduSequence<'a> {
+    pub count: usize,
+    pub bytes: &'a [u8],
+    ghost counted: { (1 ≤ count) × (count ≤ 16) },
+    ghost small: { length bytes.now ≤ 2048 },
+}
+
 /// The number of the ASDUs as it is spelled, and the bytes that hold them.
 #[derive(Clone, Copy)]
 pub struct Parts<'a> {

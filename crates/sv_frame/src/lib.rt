@@ -12,7 +12,7 @@
 
 ghost use Rattle.std.specs.Prelude.{◌≡◌, ◌+◌, ◌≤◌, length, min, []};
 ghost use Rattle.sv_frame.specs.Frame.{sv};
-ghost use Rattle.sv_frame.specs.Answer.{sv_view, kind_view, most_heads, most_heads_of};
+ghost use Rattle.sv_frame.specs.Answer.{sv_view, kind_view, opened_view, most_heads, most_heads_of};
 
 mod asdus;
 mod channel;
@@ -25,9 +25,9 @@ mod usual;
 
 use arrayvec::ArrayVec;
 pub use channel::Channel;
-use frame::{asdus_in, payload_of};
+use frame::{payload_of, sequence_in};
 pub use laws::{show_grammar, show_kind};
-pub use lent::Asdu;
+pub use lent::{Asdu, AsduSequence};
 use relay_num::Steps;
 use std::sync::ledger::Ledger;
 
@@ -70,9 +70,37 @@ pub enum SvKind {
     Pdu,
 }
 
+/// What a captured frame is, down to the bytes that hold its sample sets.
+#[derive(Clone, Copy, Debug)]
+pub enum Opened<'a> {
+    /// Other traffic.
+    Other,
+    /// A frame of sampled values of which a layer in front of the ASDUs fails: the first is this one.
+    Bad(Reason),
+    /// A frame of sampled values whose ASDUs, which aren't read yet, are in these bytes.
+    Asdus(AsduSequence<'a>),
+}
+
+/// Opens a captured frame: its layers in front of the ASDUs are read, and what these say is still to come. So a frame
+/// of one sample set needs no list (`AsduSequence::only`). The conditions are those of `read`.
+#[tactic(auto, unfolding(crate::specs::Frame::sv))]
+pub fn open<'a, L: Ledger>(frame: &'a [u8], captured: u32, steps: &mut Steps<L>) -> Opened<'a>
+    requires lent { length frame.now ≡ min captured 2048 }
+    ensures exact { opened_view result ≡ sv frame.now captured }
+    ensures cost { steps.new ≤ steps.old + 4 }
+{
+    let Some(payload) = payload_of(frame) else {
+        return Opened::Other;
+    };
+    let before = frame.len() - payload.len();
+    match sequence_in(before, payload, captured, steps) {
+        Ok(asdus) => Opened::Asdus(asdus),
+        Err(reason) => Opened::Bad(reason),
+    }
+}
+
 /// The same as `read`, with the sample sets put into `found`, which is empty. Where the frame isn't read, what `found`
 /// then holds isn't to be used. The list is made once by the caller, and not moved.
-#[tactic(auto, unfolding(crate::specs::Frame::sv))]
 pub fn read_into<'a, L: Ledger>(
     frame: &'a [u8],
     captured: u32,
@@ -84,13 +112,13 @@ pub fn read_into<'a, L: Ledger>(
     ensures exact { kind_view result found.new.items ≡ sv frame.now captured }
     ensures cost { steps.new ≤ steps.old + most_heads_of result found.new.items }
 {
-    let Some(payload) = payload_of(frame) else {
-        return SvKind::Other;
-    };
-    let before = frame.len() - payload.len();
-    match asdus_in(before, payload, captured, steps, found) {
-        Ok(()) => SvKind::Pdu,
-        Err(reason) => SvKind::Bad(reason),
+    match open(frame, captured, steps) {
+        Opened::Other => SvKind::Other,
+        Opened::Bad(reason) => SvKind::Bad(reason),
+        Opened::Asdus(asdus) => match asdus.put_into(steps, found) {
+            Ok(()) => SvKind::Pdu,
+            Err(reason) => SvKind::Bad(reason),
+        },
     }
 }
 
