@@ -46,6 +46,7 @@ fn is_field(text: &[u8], at: usize, tag: u8, size: u8) -> bool
 }
 
 /// The ASDU that the bytes are, where it has the usual form.
+#[inline(always)]
 pub(crate) fn usual_asdu<'a>(text: &'a [u8]) -> Option<Asdu<'a>>
     requires { length text.now ≤ 2048 }
     ensures { IfSome result (λ asdu. asdu_of text.now ≡ Some (plain_asdu asdu)) }
