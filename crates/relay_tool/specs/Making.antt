@@ -1,9 +1,11 @@
 -- What a part of a run does to the room, and what it writes.
-use Rattle.std.specs.Prelude.{◌≡◌, ℕ, ◌≤◌, Bool, false, ◌||◌, IsTrue, List, ◌++◌, Some, Result, OnOk, IfErr}
+use Rattle.std.specs.Prelude.{◌≡◌, ℕ, ◌≤◌, Bool, false, ◌||◌, IsTrue, List, ◌++◌, reverse, Some, Result, OnOk, IfErr}
 use Rattle.room_io.specs.Room.{RoomState, SlotState, at, Rose, OnlyAt, StaysOpen, AppendsPart}
 use Rattle.room_io.specs.declared.room.Slot.{Slot}
 use Rattle.room_io.specs.declared.room.Slot.TheVariants.{Capture}
-use Rattle.relay_tool.specs.Output.{Item}
+use Rattle.sv_frame.specs.Asdu.{PlainAsdu}
+use Rattle.sv_frame.specs.Frame.{Sv}
+use Rattle.relay_tool.specs.Output.{Item, Tells, frame_items, sets_of}
 use Rattle.relay_tool.specs.Files.{is_slot, is_written, IsWrittenFile, written, front, slot_after}
 use Rattle.relay_tool.specs.declared.put.Failed.{Failed}
 
@@ -62,3 +64,10 @@ pub record Puts (slot : Slot) (bytes : List ℕ) (old new : RoomState) (result :
   pub whole : OnOk result (IsTrue old.tells → (at new slot).bytes ≡ (at old slot).bytes ++ bytes)
   pub part : IsTrue old.tells → AppendsPart (at old slot).bytes (at new slot).bytes bytes
   pub end : IfErr result (λ e. (e.slot ≡ slot) × Rose (at old slot).faults (at new slot).faults)
+
+-- a record of this number with this frame was treated: what a bank tells of its sample sets was written, or the line of a
+-- malformed one, and the bank, which stood as `before`, stands as `after`
+pub record Treats (before after : Tells → List PlainAsdu → Type 0) (number : ℕ) (frame : Sv) (old new : RoomState) (result : Result (Unit {0}) Failed) : Type 0 where
+  pub only : OnlyWrites old new
+  pub made : (tells : Tells) (past : List PlainAsdu) → before tells past → Makes (frame_items tells number past frame) old new result
+  pub stands : (tells : Tells) (past : List PlainAsdu) → before tells past → OnOk result (after tells (reverse (sets_of frame) ++ past))

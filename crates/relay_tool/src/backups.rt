@@ -17,14 +17,13 @@ use relay_settings::Settings;
 use room_io::{Room, Slot};
 use std::alloc::Global;
 use std::sync::ledger::Ledger;
-use sv_frame::{Asdu, SvKind, read_into};
+use sv_frame::Asdu;
 
-/// The elements of all lines, with the lines' names, and how many frames were counted.
+/// The elements of all lines, with the lines' names.
 #[derive(Drop)]
 pub struct BackupBank {
     backups: Backups,
     settings: Settings,
-    frames: u64,
     ghost same: { length (lines_of backups) ≡ length settings.lines.items },
 }
 
@@ -50,15 +49,10 @@ impl BackupBank {
         requires settings { InRange settings }
         requires dial { IsDial (dial_of curve pickup tms) }
         ensures stands { IfOk result (λ bank. TellsBackups bank (study_items (backup (dial_of curve pickup tms)) (plain_settings settings)) []) }
-        ensures frames { IfOk result (λ bank. bank.frames ≡ 0) }
         ensures heard { IfOk result (λ bank. heard_of (backups_of bank) ≡ 0) }
     {
         let backups = Backups::new(alloc, &settings, curve, pickup, tms)?;
-        Ok(BackupBank {
-            backups,
-            settings,
-            frames: 0,
-        })
+        Ok(BackupBank { backups, settings })
     }
 }
 
@@ -68,24 +62,11 @@ impl Bank for BackupBank {
     ghost use Rattle.relay_tool.specs.Files.{is_slot};
     ghost use Rattle.relay_tool.specs.Banks.{backups_of, TellsBackups};
 
-    ghost frames = { λ bank. bank.frames };
-
     ghost heard = { λ bank. heard_of (backups_of bank) };
 
     ghost stands = { TellsBackups };
 
     ghost outputs = { λ slot. is_slot slot Log };
-
-    fn frame_into<'a, L: Ledger>(
-        &mut self,
-        frame: &'a [u8],
-        captured: u32,
-        sets: &mut ArrayVec<Asdu<'a>, 16>,
-        steps: &mut Steps<L>,
-    ) -> SvKind {
-        self.frames += 1;
-        read_into(frame, captured, steps, sets)
-    }
 
     fn hear<R: Room, L: Ledger>(
         &mut self,

@@ -16,14 +16,13 @@ use relay_settings::Settings;
 use room_io::{Room, Slot};
 use std::alloc::Global;
 use std::sync::ledger::Ledger;
-use sv_frame::{Asdu, SvKind, read_into};
+use sv_frame::Asdu;
 
-/// The guards of all lines, with the lines' names, and how many frames were counted.
+/// The guards of all lines, with the lines' names.
 #[derive(Drop)]
 pub struct GuardBank {
     guards: Guards,
     settings: Settings,
-    frames: u64,
     ghost same: { length (lines_of guards) ≡ length settings.lines.items },
 }
 
@@ -49,15 +48,10 @@ impl GuardBank {
         requires settings { InRange settings }
         requires times { AreTimes (times_of fail_ms dead_ms reclaim_ms) }
         ensures stands { IfOk result (λ bank. TellsGuarded bank (study_items (guard (times_of fail_ms dead_ms reclaim_ms)) (plain_settings settings)) []) }
-        ensures frames { IfOk result (λ bank. bank.frames ≡ 0) }
         ensures heard { IfOk result (λ bank. heard_of (guards_of bank) ≡ 0) }
     {
         let guards = Guards::new(alloc, &settings, fail_ms, dead_ms, reclaim_ms)?;
-        Ok(GuardBank {
-            guards,
-            settings,
-            frames: 0,
-        })
+        Ok(GuardBank { guards, settings })
     }
 }
 
@@ -67,24 +61,11 @@ impl Bank for GuardBank {
     ghost use Rattle.relay_tool.specs.Files.{is_slot};
     ghost use Rattle.relay_tool.specs.Banks.{guards_of, TellsGuarded};
 
-    ghost frames = { λ bank. bank.frames };
-
     ghost heard = { λ bank. heard_of (guards_of bank) };
 
     ghost stands = { TellsGuarded };
 
     ghost outputs = { λ slot. is_slot slot Log };
-
-    fn frame_into<'a, L: Ledger>(
-        &mut self,
-        frame: &'a [u8],
-        captured: u32,
-        sets: &mut ArrayVec<Asdu<'a>, 16>,
-        steps: &mut Steps<L>,
-    ) -> SvKind {
-        self.frames += 1;
-        read_into(frame, captured, steps, sets)
-    }
 
     fn hear<R: Room, L: Ledger>(
         &mut self,

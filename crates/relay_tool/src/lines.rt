@@ -24,7 +24,7 @@ use room_io::{Room, Slot};
 use station::Station;
 use std::alloc::Global;
 use std::sync::ledger::Ledger;
-use sv_frame::{Asdu, SvKind};
+use sv_frame::Asdu;
 
 /// The lines, and room for what one of them tells.
 #[derive(Drop)]
@@ -37,13 +37,13 @@ impl Lines {
     ghost use Rattle.std.specs.Prelude.{◌≡◌, [], IfOk};
     ghost use Rattle.relay_settings.specs.Settings.{plain_settings};
     ghost use Rattle.relay_settings.specs.Ranges.{InRange};
-    ghost use Rattle.station.specs.KeptStation.{StandsFor, frames_of, heard_of};
+    ghost use Rattle.station.specs.KeptStation.{StandsFor, heard_of};
     ghost use Rattle.relay_tool.specs.Lines.{station_of};
 
     /// The lines of these settings, which have heard nothing. `NoMemory`: they found no room.
     pub fn new(alloc: Global, settings: &Settings) -> Result<Lines, NoMemory>
         requires { InRange settings.now }
-        ensures { IfOk result (λ lines. StandsFor (plain_settings settings.now) [] (station_of lines) × (frames_of (station_of lines) ≡ 0) × (heard_of (station_of lines) ≡ 0)) }
+        ensures { IfOk result (λ lines. StandsFor (plain_settings settings.now) [] (station_of lines) × (heard_of (station_of lines) ≡ 0)) }
     {
         let station = Station::new(alloc, settings)?;
         Ok(Lines {
@@ -56,29 +56,17 @@ impl Lines {
 impl Bank for Lines {
     ghost use Rattle.std.specs.Prelude.{◌≡◌};
     ghost use Rattle.relay_settings.specs.Settings.{PlainSettings};
-    ghost use Rattle.station.specs.KeptStation.{frames_of, heard_of};
+    ghost use Rattle.station.specs.KeptStation.{heard_of};
     ghost use Rattle.relay_tool.specs.Lines.{station_of, TellsAs};
     ghost use Rattle.room_io.specs.declared.room.Slot.TheVariants.{Goose, Log};
     ghost use Rattle.std.specs.Prelude.{◌||◌};
     ghost use Rattle.relay_tool.specs.Files.{is_slot};
-
-    ghost frames = { λ lines. frames_of (station_of lines) };
 
     ghost heard = { λ lines. heard_of (station_of lines) };
 
     ghost stands = { TellsAs };
 
     ghost outputs = { λ slot. is_slot slot Goose || is_slot slot Log };
-
-    fn frame_into<'a, L: Ledger>(
-        &mut self,
-        frame: &'a [u8],
-        captured: u32,
-        sets: &mut ArrayVec<Asdu<'a>, 16>,
-        steps: &mut Steps<L>,
-    ) -> SvKind {
-        self.station.frame_into(frame, captured, sets, steps)
-    }
 
     fn hear<R: Room, L: Ledger>(
         &mut self,

@@ -16,14 +16,13 @@ use relay_settings::Settings;
 use room_io::{Room, Slot};
 use std::alloc::Global;
 use std::sync::ledger::Ledger;
-use sv_frame::{Asdu, SvKind, read_into};
+use sv_frame::Asdu;
 
-/// The locators of all lines, with the lines' names, and how many frames were counted.
+/// The locators of all lines, with the lines' names.
 #[derive(Drop)]
 pub struct LocateBank {
     locators: Locators,
     settings: Settings,
-    frames: u64,
     ghost same: { length (lines_of locators) ≡ length settings.lines.items },
 }
 
@@ -40,15 +39,10 @@ impl LocateBank {
     pub fn new(alloc: Global, settings: Settings) -> Result<LocateBank, NoMemory>
         requires { InRange settings }
         ensures stands { IfOk result (λ bank. TellsLocated bank (study_items locate (plain_settings settings)) []) }
-        ensures frames { IfOk result (λ bank. bank.frames ≡ 0) }
         ensures heard { IfOk result (λ bank. heard_of (locators_of bank) ≡ 0) }
     {
         let locators = Locators::new(alloc, &settings)?;
-        Ok(LocateBank {
-            locators,
-            settings,
-            frames: 0,
-        })
+        Ok(LocateBank { locators, settings })
     }
 }
 
@@ -58,24 +52,11 @@ impl Bank for LocateBank {
     ghost use Rattle.relay_tool.specs.Files.{is_slot};
     ghost use Rattle.relay_tool.specs.Banks.{locators_of, TellsLocated};
 
-    ghost frames = { λ bank. bank.frames };
-
     ghost heard = { λ bank. heard_of (locators_of bank) };
 
     ghost stands = { TellsLocated };
 
     ghost outputs = { λ slot. is_slot slot Log };
-
-    fn frame_into<'a, L: Ledger>(
-        &mut self,
-        frame: &'a [u8],
-        captured: u32,
-        sets: &mut ArrayVec<Asdu<'a>, 16>,
-        steps: &mut Steps<L>,
-    ) -> SvKind {
-        self.frames += 1;
-        read_into(frame, captured, steps, sets)
-    }
 
     fn hear<R: Room, L: Ledger>(
         &mut self,

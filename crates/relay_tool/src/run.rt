@@ -7,9 +7,10 @@ ghost use Rattle.room_io.specs.declared.room.Slot.{Slot};
 ghost use Rattle.room_io.specs.declared.room.Slot.TheVariants.{Capture, Log};
 ghost use Rattle.capture_feed.specs.Left.{found, is_live};
 ghost use Rattle.sv_frame.specs.Asdu.{PlainAsdu, plain_asdu, plain_asdus};
-ghost use Rattle.sv_frame.specs.Frame.{sv};
-ghost use Rattle.relay_tool.specs.Output.{Tells, frame_items, sets_of};
-ghost use Rattle.relay_tool.specs.Making.{Makes, OnlyWrites};
+ghost use Rattle.sv_frame.specs.Frame.{sv, bad};
+ghost use Rattle.sv_frame.specs.Answer.{sequence_view};
+ghost use Rattle.relay_tool.specs.Output.{Tells, frame_items};
+ghost use Rattle.relay_tool.specs.Making.{Makes, OnlyWrites, Treats};
 ghost use Rattle.relay_tool.specs.Files.{IsWrittenFile};
 ghost use Rattle.relay_tool.specs.Running.{Runs, halted};
 
@@ -21,7 +22,7 @@ use event_record::Event;
 use relay_num::{Steps, open_steps};
 use room_io::{Room, Slot};
 use std::sync::ledger::{Blank, Ledger};
-use sv_frame::{Asdu, SvKind};
+use sv_frame::{Asdu, AsduSequence, Opened, Reason, open};
 
 /// Where a capture stops that could be read to there. Counts are of whole records before the stop.
 #[derive(Clone, Copy, Debug, Drop)]
@@ -51,12 +52,71 @@ fn hear_all<R: Room, B: Bank, L: Ledger>(
     ensures after { (tells : Tells) (past : List PlainAsdu) → B.stands bank.old tells past →
         OnOk result (B.stands bank.new tells (reverse (plain_asdus asdus.now) ++ past)) }
     ensures counted { B.heard bank.new ≤ B.heard bank.old + length asdus.now }
-    ensures same_frames { B.frames bank.new ≡ B.frames bank.old }
 {
     for asdu in asdus {
         bank.hear(asdu, room, steps)?;
     }
     Ok(())
+}
+
+/// Writes the line of a malformed frame, the record of this number.
+fn put_malformed<R: Room>(room: &mut R, number: u64, reason: Reason) -> Result<(), Failed>
+    requires number { number ≤ 2 ^ 36 }
+    requires log { IsReadyOut Log (R.state room.old) }
+    ensures { (tells : Tells) (past : List PlainAsdu) →
+        Makes (frame_items tells number past (bad reason)) (R.state room.old) (R.state room.new) result }
+{
+    let event = Event::Malformed {
+        frame: number,
+        reason,
+    };
+    put_event(room, b"", &event)
+}
+
+/// Hears the sample set of a frame that has to hold one, the record of this number: no list is made for it.
+fn hear_only<R: Room, B: Bank, L: Ledger>(
+    bank: &mut B,
+    number: u64,
+    asdus: AsduSequence<'_>,
+    room: &mut R,
+    steps: &mut Steps<L>,
+) -> Result<(), Failed>
+    requires one { asdus.count ≡ 1 }
+    requires number { number ≤ 2 ^ 36 }
+    requires few { B.heard bank.old + 16 ≤ 2 ^ 40 }
+    requires log { IsReadyOut Log (R.state room.old) }
+    requires open { (slot : Slot) → IsTrue (B.outputs slot) → IsReadyOut slot (R.state room.old) }
+    ensures treats { Treats (B.stands bank.old) (B.stands bank.new) number (sequence_view asdus.entry) (R.state room.old) (R.state room.new) result }
+    ensures counted { B.heard bank.new ≤ B.heard bank.old + 16 }
+{
+    match asdus.only(steps) {
+        Ok(asdu) => bank.hear(&asdu, room, steps),
+        Err(reason) => put_malformed(room, number, reason),
+    }
+}
+
+/// Hears the sample sets of a frame, the record of this number. It isn't inlined, so that the room for their list is
+/// cleared only where there are several.
+#[inline(never)]
+fn hear_several<R: Room, B: Bank, L: Ledger>(
+    bank: &mut B,
+    number: u64,
+    asdus: AsduSequence<'_>,
+    room: &mut R,
+    steps: &mut Steps<L>,
+) -> Result<(), Failed>
+    requires number { number ≤ 2 ^ 36 }
+    requires few { B.heard bank.old + 16 ≤ 2 ^ 40 }
+    requires log { IsReadyOut Log (R.state room.old) }
+    requires open { (slot : Slot) → IsTrue (B.outputs slot) → IsReadyOut slot (R.state room.old) }
+    ensures treats { Treats (B.stands bank.old) (B.stands bank.new) number (sequence_view asdus.entry) (R.state room.old) (R.state room.new) result }
+    ensures counted { B.heard bank.new ≤ B.heard bank.old + 16 }
+{
+    let mut sets = ArrayVec::new();
+    match asdus.put_into(steps, &mut sets) {
+        Ok(()) => hear_all(bank, sets.as_slice(), room, steps),
+        Err(reason) => put_malformed(room, number, reason),
+    }
 }
 
 /// Treats the record of this number: a malformed frame has its line in the log.
@@ -67,31 +127,24 @@ fn treat<R: Room, B: Bank, L: Ledger>(
     room: &mut R,
     steps: &mut Steps<L>,
 ) -> Result<(), Failed>
-    requires frames { B.frames bank.old < 2 ^ 36 }
-    requires number { number ≡ B.frames bank.old + 1 }
+    requires number { number ≤ 2 ^ 36 }
     requires few { B.heard bank.old + 16 ≤ 2 ^ 40 }
     requires lent { length frame.bytes.now ≡ min frame.captured 2048 }
     requires log { IsReadyOut Log (R.state room.old) }
     requires open { (slot : Slot) → IsTrue (B.outputs slot) → IsReadyOut slot (R.state room.old) }
-    ensures only { OnlyWrites (R.state room.old) (R.state room.new) }
-    ensures made { (tells : Tells) (past : List PlainAsdu) → B.stands bank.old tells past →
-        Makes (frame_items tells number past (sv frame.entry.bytes.now frame.entry.captured)) (R.state room.old) (R.state room.new) result }
-    ensures after { (tells : Tells) (past : List PlainAsdu) → B.stands bank.old tells past →
-        OnOk result (B.stands bank.new tells (reverse (sets_of (sv frame.entry.bytes.now frame.entry.captured)) ++ past)) }
+    ensures treats { Treats (B.stands bank.old) (B.stands bank.new) number (sv frame.entry.bytes.now frame.entry.captured) (R.state room.old) (R.state room.new) result }
     ensures counted { B.heard bank.new ≤ B.heard bank.old + 16 }
-    ensures frames { B.frames bank.new ≡ B.frames bank.old + 1 }
 {
-    let mut sets = ArrayVec::new();
-    match bank.frame_into(frame.bytes, frame.captured, &mut sets, steps) {
-        SvKind::Other => Ok(()),
-        SvKind::Bad(reason) => {
-            let event = Event::Malformed {
-                frame: number,
-                reason,
-            };
-            put_event(room, b"", &event)
+    match open(frame.bytes, frame.captured, steps) {
+        Opened::Other => Ok(()),
+        Opened::Bad(reason) => put_malformed(room, number, reason),
+        Opened::Asdus(asdus) => {
+            if asdus.count == 1 {
+                hear_only(bank, number, asdus, room, steps)
+            } else {
+                hear_several(bank, number, asdus, room, steps)
+            }
         }
-        SvKind::Pdu => hear_all(bank, sets.as_slice(), room, steps),
     }
 }
 
@@ -123,7 +176,6 @@ fn treat_all<R: Room, B: Bank, L: Ledger>(
     requires capture { IsReadyIn Capture (R.state room.old) }
     requires log { IsReadyOut Log (R.state room.old) }
     requires open { (slot : Slot) → IsTrue (B.outputs slot) → IsReadyOut slot (R.state room.old) }
-    requires frames { B.frames bank.old ≡ 0 }
     requires heard { B.heard bank.old ≡ 0 }
     ensures { (tells : Tells) → B.stands bank.old tells [] →
         Runs tells (found feed.old) (R.state room.old) (R.state room.new) result }
@@ -157,7 +209,6 @@ pub fn run<R: Room, B: Bank, L: Ledger>(
     requires capture { IsReadyIn Capture (R.state room.old) }
     requires log { IsReadyOut Log (R.state room.old) }
     requires open { (slot : Slot) → IsTrue (B.outputs slot) → IsReadyOut slot (R.state room.old) }
-    requires frames { B.frames bank.old ≡ 0 }
     requires heard { B.heard bank.old ≡ 0 }
     ensures { (tells : Tells) → B.stands bank.old tells [] →
         Runs tells (found feed.old) (R.state room.old) (R.state room.new) result }

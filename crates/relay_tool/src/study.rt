@@ -74,7 +74,6 @@ fn observe<R: Room, B: Bank>(
 ) -> Result<Stopped, End>
     requires fresh { IsFresh feed.old }
     requires limit { limit_of feed.old ≡ most_capture }
-    requires frames { B.frames bank.old ≡ 0 }
     requires heard { B.heard bank.old ≡ 0 }
     requires outputs { (slot : Slot) → IsTrue (B.outputs slot) → slot ≡ Log }
     requires capture { (R.state room.old).capture.name ≡ None }

@@ -9,12 +9,12 @@ abbrev pub zero_sequence : Cx → Cx → Cx → Cx
 zero_sequence a b c = sum (sum a b) c
 
 -- A + a B + a2 C: B follows A by a third of a circle, and C follows B
-abbrev pub plus_sequence : Cx → Cx → Cx → Cx
-plus_sequence a b c = sum (sum a (turned b)) (turned_back c)
+abbrev pub positive_sequence : Cx → Cx → Cx → Cx
+positive_sequence a b c = sum (sum a (turned b)) (turned_back c)
 
 -- A + a2 B + a C: C follows A, and B follows C
-abbrev pub minus_sequence : Cx → Cx → Cx → Cx
-minus_sequence a b c = sum (sum a (turned_back b)) (turned c)
+abbrev pub negative_sequence : Cx → Cx → Cx → Cx
+negative_sequence a b c = sum (sum a (turned_back b)) (turned c)
 
 abbrev pub sequence_of : Cx → Cx → Cx → Sequence
-sequence_of a b c = record { zero = zero_sequence a b c; plus = plus_sequence a b c; minus = minus_sequence a b c }
+sequence_of a b c = record { zero = zero_sequence a b c; plus = positive_sequence a b c; minus = negative_sequence a b c }

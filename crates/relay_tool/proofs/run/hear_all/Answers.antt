@@ -17,7 +17,6 @@ returns-in_err-hear-clause-made g c tells past stands =
 pub loop-asdu-preserved : goal.loop-asdu-preserved
 loop-asdu-preserved g c = record {
   heard = c.in_ok-hear.ensures.counted ∙ (let h = c.loop-asdu.invariant.heard in omega arith);
-  frames = c.in_ok-hear.ensures.same_frames ∙ c.loop-asdu.invariant.frames;
   open_outputs = λ slot is. let o = c.loop-asdu.invariant.open_outputs slot is in (o.0, (c.in_ok-hear.ensures.only.each slot).ready ∙ o.1);
   only = OnlyUses-trans c.loop-asdu.invariant.only c.in_ok-hear.ensures.only;
   made = λ tells past stands.

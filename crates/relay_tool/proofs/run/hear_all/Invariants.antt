@@ -11,7 +11,6 @@ use Rattle.relay_tool.proofs.run.hear_all.Given as goal
 abbrev pub invariant-loop-asdu : goal.invariant-loop-asdu
 invariant-loop-asdu g l = record {
   heard : g.B.Bank.heard l.bank ≡ g.B.Bank.heard l.fn.bank + l.asdu-index;
-  frames : g.B.Bank.frames l.bank ≡ g.B.Bank.frames l.fn.bank;
   open_outputs : (slot : Slot) → IsTrue (g.B.Bank.outputs slot) → IsReadyOut slot (g.R.Room.state l.room);
   only : OnlyWrites (g.R.Room.state l.fn.room) (g.R.Room.state l.room);
   made : (tells : Tells) (past : List PlainAsdu) → g.B.Bank.stands l.fn.bank tells past →

@@ -21,7 +21,6 @@ records-init g c = record {
   log = c.requires.log;
   open_outputs = c.requires.open;
   counted = omega arith;
-  frames = c.requires.frames;
   heard = let h = c.requires.heard in omega arith;
   only = OnlyUses-refl is_worked _;
   treated = λ tells stands. treated-none _ tells _ _ _ stands;
@@ -33,22 +32,21 @@ records-preserved g c =
     let k = c.in-Ok.ensures.asks.reads in
     let hands = h.1.1.1 in
     let i = c.records.invariant in
-    let only = c.treat.ensures.only in
+    let only = c.treat.ensures.treats.only in
     record {
       live = h.1.0.0;
       capture = (refl, (only.each Capture).ready ∙ (k.stays.ready ∙ i.capture.1));
       log = (refl, (only.each Log).ready ∙ ((works-reads k.only k.stays k.later).each Log).ready ∙ i.log.1);
       open_outputs = λ slot is. let o = i.open_outputs slot is in (o.0, (only.each slot).ready ∙ ((works-reads k.only k.stays k.later).each slot).ready ∙ o.1);
       counted = let t = hands.taken in let n = i.counted in omega arith;
-      frames = c.treat.ensures.frames ∙ ap (λ n. n + 1) i.frames;
       heard = let n = c.treat.ensures.counted in let m = i.heard in omega arith;
       only = OnlyUses-trans (OnlyUses-trans i.only (works-reads k.only k.stays k.later)) (works-writes only);
       treated = λ tells stands.
           let t = i.treated tells stands in
           same-place (ap (λ (s : SlotState). s.bytes) (only.others Capture refl))
           (treated-next tells _ _ (g.B.Bank.stands c.treat.new.bank tells) t i.only k.only hands.gives
-          (c.in_ok-treat-in-Some.ensures.made tells t.past t.stands).all
-          (c.in_ok-treat-in-Some.ensures.after tells t.past t.stands));
+          (c.in_ok-treat-in-Some.ensures.treats.made tells t.past t.stands).all
+          (c.in_ok-treat-in-Some.ensures.treats.stands tells t.past t.stands));
     }
 
 pub returns-in_err-treat-in-Some : goal.returns-in_err-treat-in-Some
@@ -58,7 +56,7 @@ returns-in_err-treat-in-Some g c tells stands =
     let hands = h.1.1.1 in
     let i = c.records.invariant in
     let t = i.treated tells stands in
-    let made = c.in_err-treat-in-Some.ensures.made tells t.past t.stands in
+    let made = c.in_err-treat-in-Some.ensures.treats.made tells t.past t.stands in
     let p = err_from_is_err_and c.from_residual.result c.from_residual.ensures.1 in
     rw (p.1, p.2) (record {
       only = OnlyUses-trans (OnlyUses-trans i.only (works-reads k.only k.stays k.later)) (works-writes made.only);

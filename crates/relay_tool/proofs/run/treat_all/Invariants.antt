@@ -15,7 +15,6 @@ invariant-records g l = record {
   log : IsReadyOut Log (g.R.Room.state l.room);
   open_outputs : (slot : Slot) → IsTrue (g.B.Bank.outputs slot) → IsReadyOut slot (g.R.Room.state l.room);
   counted : 16 * l.records ≤ taken_by l.feed;
-  frames : g.B.Bank.frames l.bank ≡ l.records;
   heard : g.B.Bank.heard l.bank ≤ 16 * l.records;
   only : OnlyWorks (g.R.Room.state l.fn.room) (g.R.Room.state l.room);
   treated : (tells : Tells) → g.B.Bank.stands l.fn.bank tells [] →
