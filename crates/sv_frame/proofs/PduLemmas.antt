@@ -1,9 +1,9 @@
 -- The elements of a PDU, by their heads.
 use Rattle.std.proofs.Common.{◌≡◌, ◌≢◌, ℕ, suc, ◌<◌, List, [], ◌∷◌, length, Option, Some, None, refl, ap, ◌∙◌, arith}
 use Rattle.std.proofs.lemmas.Bool.{eq-eqb, ne_eqb}
-use Rattle.ber_fields.specs.Element.{Element, ◌>>=◌, element_at}
+use Rattle.ber_fields.specs.Element.{Element, element, ◌>>=◌, element_at}
 use Rattle.sv_frame.specs.Elements.{elements}
-use Rattle.sv_frame.specs.Pdu.{counted}
+use Rattle.sv_frame.specs.Pdu.{counted, pdu_of}
 use Rattle.sv_frame.specs.Enclosed.{only_in, parts_in}
 use Rattle.sv_frame.proofs.ElementLemmas.{next, stops, full, empty, holds}
 
@@ -55,3 +55,12 @@ parts_three bytes e f g rest more end h k l none is = rw (then 2 bytes e rest _ 
 pub parts_other : (bytes : List ℕ) (e f g : Element) (rest more end : List ℕ) → element_at bytes ≡ Some (e, rest) → element_at rest ≡ Some (f, more) → element_at more ≡ Some (g, end) → f.tag ≢ 0x81 → parts_in bytes ≡ None
 parts_other bytes e f g rest more [] h k l differ = rw (then 2 bytes e rest _ h (then 1 rest f more _ k (then 0 more g [] _ l (empty 0))), ne_eqb f.tag 0x81 differ) refl
 parts_other bytes e f g rest more (b ∷ end) h k l differ = parts_more bytes e f g rest more (b ∷ end) h k l (omega arith)
+
+-- ---- the usual form
+
+pub usual_parts : (apdu inner count sequence rest mid end : List ℕ) → element_at apdu ≡ Some (element 0x60 inner, rest) → rest ≡ []
+    → element_at inner ≡ Some (element 0x80 count, mid) → element_at mid ≡ Some (element 0xa2 sequence, end) → end ≡ [] → length count ≡ 1
+    → pdu_of apdu ≡ Some (record { count = count; sequence = sequence })
+unfolding pdu_of
+usual_parts apdu inner count sequence rest mid end h none k l empty_end one =
+    rw (then 0 apdu (element 0x60 inner) rest _ h (last 0 rest none), then 2 inner (element 0x80 count) mid _ k (then 1 mid (element 0xa2 sequence) end _ l (last 1 end empty_end)), one) refl

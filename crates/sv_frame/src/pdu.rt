@@ -7,6 +7,7 @@ ghost use Rattle.sv_frame.specs.Enclosed.{only_in, parts_in};
 ghost use Rattle.sv_frame.specs.Views.{plain_parts};
 
 use crate::lent::Parts;
+use crate::usual::usual_pdu;
 use ber_fields::{BerHead, head};
 use relay_num::Steps;
 use std::sync::ledger::Ledger;
@@ -78,6 +79,9 @@ pub(crate) fn pdu_of<'a, L: Ledger>(apdu: &'a [u8], steps: &mut Steps<L>) -> Opt
     ensures size { IfSome result (λ parts. (0 < length parts.count.now) × (length parts.count.now ≤ 4)) }
     ensures cost { steps.new ≤ steps.old + 4 }
 {
+    if let Some(parts) = usual_pdu(apdu) {
+        return Some(parts);
+    }
     let inner = only_in(0x60, apdu, steps)?;
     parts_in(inner, steps)
 }

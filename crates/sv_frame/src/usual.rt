@@ -1,9 +1,12 @@
-//! ASDUs in the usual form: the five required fields and no other, each with a length of one byte.
+//! The usual form of a frame's parts, in which each length has one byte: of a PDU a count of one byte and the sequence,
+//! of an ASDU the five required fields, and no other.
 ghost use Rattle.std.specs.Prelude.{◌≡◌, ◌≢◌, ◌%◌, ◌<◌, ◌≤◌, ◌+◌, true, length, drop, slice_range, IfSome, Some};
 ghost use Rattle.ber_fields.specs.Element.{element, element_at};
 ghost use Rattle.sv_frame.specs.Asdu.{plain_asdu, asdu_of};
+ghost use Rattle.sv_frame.specs.Pdu.{pdu_of};
+ghost use Rattle.sv_frame.specs.Views.{plain_parts};
 
-use crate::lent::Asdu;
+use crate::lent::{Asdu, Parts};
 use ber_fields::BerHead;
 use byteorder::{BigEndian, ByteOrder};
 
@@ -73,5 +76,30 @@ pub(crate) fn usual_asdu<'a>(text: &'a [u8]) -> Option<Asdu<'a>>
         conf_rev: BigEndian::read_u32(&text[at + 6..at + 10]),
         counter: BigEndian::read_u16(&text[at + 2..at + 4]),
         synch: clock[0],
+    })
+}
+
+/// The parts of the PDU that fills the APDU, where it has the usual form.
+#[inline(always)]
+pub(crate) fn usual_pdu<'a>(apdu: &'a [u8]) -> Option<Parts<'a>>
+    requires { length apdu.now ≤ 2048 }
+    ensures exact { IfSome result (λ parts. pdu_of apdu.now ≡ Some (plain_parts parts)) }
+    ensures size { IfSome result (λ parts. length parts.count.now ≡ 1) }
+{
+    let outer = field_at(apdu, 0, 0x60)?;
+    if outer.end != apdu.len() {
+        return None;
+    }
+    let inner = &apdu[outer.start..outer.end];
+    if inner.len() < 3 || !is_field(inner, 0, 0x80, 1) {
+        return None;
+    }
+    let sequence = field_at(inner, 3, 0xa2)?;
+    if sequence.end != inner.len() {
+        return None;
+    }
+    Some(Parts {
+        count: &inner[2..3],
+        sequence: &inner[sequence.start..sequence.end],
     })
 }

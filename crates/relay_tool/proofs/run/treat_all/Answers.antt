@@ -1,4 +1,4 @@
-use Rattle.std.proofs.Common.{◌+◌, ◌∙◌, refl, sym, subst, ap, arith, inr}
+use Rattle.std.proofs.Common.{◌∙◌, refl, sym, subst, ap, arith, inr}
 use Rattle.std.specs.Prelude.{Result}
 use Rattle.room_io.specs.Room.{SlotState}
 use Rattle.room_io.specs.declared.room.Slot.TheVariants.{Capture, Log}

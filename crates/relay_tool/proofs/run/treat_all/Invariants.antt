@@ -1,4 +1,4 @@
-use Rattle.std.proofs.Common.{◌≡◌, ◌*◌, ◌-◌, ◌≤◌, IsTrue, []}
+use Rattle.std.proofs.Common.{◌*◌, ◌-◌, ◌≤◌, IsTrue, []}
 use Rattle.room_io.specs.Room.{IsReadyIn, IsReadyOut}
 use Rattle.room_io.specs.declared.room.Slot.{Slot}
 use Rattle.room_io.specs.declared.room.Slot.TheVariants.{Capture, Log}
