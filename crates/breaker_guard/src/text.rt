@@ -1,11 +1,10 @@
 //! The text of an event in the log.
 ghost use Rattle.std.specs.Prelude.{◌≡◌, ◌≤◌, ◌<◌, ◌^◌, ◌++◌, length};
-ghost use Rattle.event_record.specs.Line.{place_text};
 ghost use Rattle.breaker_guard.specs.GuardTexts.{IsPrintableGuard, guard_text, what_text};
 
 use crate::event::{GuardEvent, GuardWhat};
 use arrayvec::ArrayVec;
-use event_record::{At, put_place};
+use event_record::begin_line;
 use relay_num::put_bytes;
 
 /// The log line of an event of the line with this name, with its newline.
@@ -15,23 +14,11 @@ pub fn print_guard(name: &[u8], e: &GuardEvent) -> ArrayVec<u8, 160>
     requires event { IsPrintableGuard e.now }
     ensures { result.items ≡ guard_text name.now e.now }
 {
-    let mut out = ArrayVec::new();
-    put_head(&mut out, name, e.at);
+    let mut out = begin_line(name, e.at);
     put_bytes(&mut out, b"guard ");
     put_bytes(&mut out, word(e.what));
     out.push(b'\n');
     out
-}
-
-/// Appends what stands before the words.
-fn put_head(out: &mut ArrayVec<u8, 160>, name: &[u8], at: At)
-    requires name { length name.now ≤ 16 }
-    requires nanos { at.nanos < 10 ^ 9 }
-    requires room { length out.old.items ≡ 0 }
-    ensures bytes { out.new.items ≡ out.old.items ++ place_text name.now at }
-    ensures long { length out.new.items ≤ 69 }
-{
-    put_place(out, name, &at);
 }
 
 /// The word for what happened.

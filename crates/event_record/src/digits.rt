@@ -14,8 +14,8 @@ pub(crate) fn put_number(out: &mut ArrayVec<u8, 160>, value: u64)
     put_decimal(out, value);
 }
 
-/// Appends the last `width` decimal digits of a value, with zeros in front.
-pub(crate) fn put_fixed(out: &mut ArrayVec<u8, 160>, width: usize, value: u32)
+/// Appends the last `width` decimal digits of a value, with zeros in front. The digits have to fit.
+pub fn put_fixed(out: &mut ArrayVec<u8, 160>, width: usize, value: u32)
     requires { length out.old.items + width ≤ 160 }
     ensures bytes { out.new.items ≡ out.old.items ++ fixed width value }
     ensures long { length out.new.items ≡ length out.old.items + width }

@@ -8,6 +8,7 @@
 //! isn't read) and `relay_settings` (rate and start).
 #![tactic(auto)]
 
+mod calendar;
 mod digits;
 mod event;
 mod line;
@@ -15,6 +16,8 @@ mod line;
 mod tests;
 mod time;
 
+pub use calendar::{CivilDate, civil_date};
+pub use digits::put_fixed;
 pub use event::{Event, What};
-pub use line::{print, put_place};
-pub use time::{At, at_of};
+pub use line::{begin_line, loop_name, print, put_place};
+pub use time::{At, at_of, put_clock};

@@ -33,6 +33,18 @@ pub fn print(name: &[u8], event: &Event) -> ArrayVec<u8, 160>
     out
 }
 
+/// A log line that has begun: the name, the time and the number, each with one space behind it.
+pub fn begin_line(name: &[u8], at: At) -> ArrayVec<u8, 160>
+    requires name { length name.now ≤ 16 }
+    requires nanos { at.nanos < 10 ^ 9 }
+    ensures bytes { result.items ≡ place_text name.now at }
+    ensures long { length result.items ≤ 69 }
+{
+    let mut out = ArrayVec::new();
+    put_place(&mut out, name, &at);
+    out
+}
+
 /// Appends the name, the time and the number, each with one space behind it. The bytes have to fit.
 #[tactic(auto, unfolding(crate::specs::Line::place_text))]
 pub fn put_place(out: &mut ArrayVec<u8, 160>, name: &[u8], at: &At)
@@ -121,8 +133,8 @@ fn put_zone(out: &mut ArrayVec<u8, 160>, zone: u8, lp: u8, did: &[u8])
     put_bytes(out, did);
 }
 
-/// The name of a loop.
-fn loop_name(lp: u8) -> &'static [u8]
+/// The name of a loop, as `AG`.
+pub fn loop_name(lp: u8) -> &'static [u8]
     ensures text { result.now ≡ loop_text lp }
     ensures long { length result.now ≡ 2 }
 {

@@ -22,9 +22,7 @@ fn from_second(start: u32) -> Common
 
 /// Name, time and number of a sample.
 fn place(start: u32, number: u64) -> ArrayVec<u8, 160> {
-    let mut out = ArrayVec::new();
-    put_place(&mut out, b"L1", &at_of(&from_second(start), number));
-    out
+    begin_line(b"L1", at_of(&from_second(start), number))
 }
 
 #[test]
@@ -46,6 +44,20 @@ fn sample_has_its_civil_time(rt: HostRuntime) {
     ];
     for (start, number, text) in rows {
         assert_eq!(rt; place(start, number).as_slice(), text.as_bytes());
+    }
+}
+
+#[test]
+fn day_has_its_date(rt: HostRuntime) {
+    let rows = [
+        (0, 1970, 1, 1),
+        (11_016, 2000, 2, 29),
+        (19_782, 2024, 2, 29),
+        (19_783, 2024, 3, 1),
+        (49_710, 2106, 2, 7),
+    ];
+    for (days, year, month, day) in rows {
+        assert_eq!(rt; civil_date(days), CivilDate { year, month, day });
     }
 }
 

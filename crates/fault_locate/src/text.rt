@@ -1,13 +1,12 @@
 //! The text of a located fault in the log.
 ghost use Rattle.std.specs.Prelude.{◌≡◌, ◌≤◌, ◌<◌, ◌+◌, ◌^◌, ◌++◌, length, decimal};
 ghost use Rattle.std.specs.Option.{ForSome};
-ghost use Rattle.event_record.specs.Line.{place_text, loop_text};
 ghost use Rattle.fault_locate.specs.Quotients.{IsLimited};
 ghost use Rattle.fault_locate.specs.LocateTexts.{IsPrintableLocated, located_text, distance_text, whole_text};
 
 use crate::located::Located;
 use arrayvec::ArrayVec;
-use event_record::{At, put_place};
+use event_record::{begin_line, loop_name};
 use relay_num::{put_bytes, put_decimal};
 
 /// The log line of a located fault of the line with this name, with its newline.
@@ -17,8 +16,7 @@ pub fn print_located(name: &[u8], l: &Located) -> ArrayVec<u8, 160>
     requires located { IsPrintableLocated l.now }
     ensures { result.items ≡ located_text name.now l.now }
 {
-    let mut out = ArrayVec::new();
-    put_head(&mut out, name, l.at);
+    let mut out = begin_line(name, l.at);
     put_bytes(&mut out, b"locate ");
     put_bytes(&mut out, loop_name(l.lp));
     out.push(b' ');
@@ -27,17 +25,6 @@ pub fn print_located(name: &[u8], l: &Located) -> ArrayVec<u8, 160>
     put_distance(&mut out, l.takagi);
     out.push(b'\n');
     out
-}
-
-/// Appends what stands before the words.
-fn put_head(out: &mut ArrayVec<u8, 160>, name: &[u8], at: At)
-    requires name { length name.now ≤ 16 }
-    requires nanos { at.nanos < 10 ^ 9 }
-    requires room { length out.old.items ≡ 0 }
-    ensures bytes { out.new.items ≡ out.old.items ++ place_text name.now at }
-    ensures long { length out.new.items ≤ 69 }
-{
-    put_place(out, name, &at);
 }
 
 /// Appends a distance, or `none`.
@@ -74,19 +61,4 @@ fn put_seven(out: &mut ArrayVec<u8, 160>, value: u64)
     ensures long { length out.new.items ≤ length out.old.items + 7 }
 {
     put_decimal(out, value);
-}
-
-/// The name of a loop.
-fn loop_name(lp: u8) -> &'static [u8]
-    ensures text { result.now ≡ loop_text lp }
-    ensures long { length result.now ≡ 2 }
-{
-    match lp {
-        0 => b"AG",
-        1 => b"BG",
-        2 => b"CG",
-        3 => b"AB",
-        4 => b"BC",
-        _ => b"CA",
-    }
 }

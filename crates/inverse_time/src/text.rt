@@ -1,11 +1,10 @@
 //! The text of an event in the log.
 ghost use Rattle.std.specs.Prelude.{◌≡◌, ◌≤◌, ◌<◌, ◌^◌, ◌++◌, length};
-ghost use Rattle.event_record.specs.Line.{place_text};
 ghost use Rattle.inverse_time.specs.BackupTexts.{IsPrintableEvent, backup_text, phase_text, what_text};
 
 use crate::event::{BackupEvent, BackupWhat};
 use arrayvec::ArrayVec;
-use event_record::{At, put_place};
+use event_record::begin_line;
 use relay_num::put_bytes;
 
 /// The log line of an event of the line with this name, with its newline.
@@ -15,25 +14,13 @@ pub fn print_backup(name: &[u8], event: &BackupEvent) -> ArrayVec<u8, 160>
     requires event { IsPrintableEvent event.now }
     ensures { result.items ≡ backup_text name.now event.now }
 {
-    let mut out = ArrayVec::new();
-    put_head(&mut out, name, event.at);
+    let mut out = begin_line(name, event.at);
     put_bytes(&mut out, b"backup ");
     put_bytes(&mut out, phase_name(event.phase));
     out.push(b' ');
     put_bytes(&mut out, word(event.what));
     out.push(b'\n');
     out
-}
-
-/// Appends what stands before the words.
-fn put_head(out: &mut ArrayVec<u8, 160>, name: &[u8], at: At)
-    requires name { length name.now ≤ 16 }
-    requires nanos { at.nanos < 10 ^ 9 }
-    requires room { length out.old.items ≡ 0 }
-    ensures bytes { out.new.items ≡ out.old.items ++ place_text name.now at }
-    ensures long { length out.new.items ≤ 69 }
-{
-    put_place(out, name, &at);
 }
 
 /// The name of a phase.

@@ -4,7 +4,7 @@ use Rattle.jiff_core.specs.Date.{epoch_day}
 use Rattle.jiff_core.specs.DateTime.{civil_nanos}
 use Rattle.jiff_core.proofs.SignedLemmas.{signed_arith}
 use Rattle.event_record.proofs.Midnight.{day-midnight}
-use Rattle.comtrade_write.proofs.moment.date_of.Goals as goal
+use Rattle.event_record.proofs.calendar.date_of.Goals as goal
 
 pub returns-in-Ok : goal.returns-in-Ok
 returns-in-Ok c =

@@ -1,4 +1,0 @@
-use Rattle.comtrade_write.proofs.numbers.+put_fixed.Given as goal
-
-abbrev pub decreases-put_fixed : goal.decreases-put_fixed
-decreases-put_fixed l = l.width
