@@ -1,22 +1,14 @@
 -- The parts of a configuration, in the order in which they are read.
 use Rattle.std.proofs.Common.{◌≡◌, ℕ, List, ◌∷◌, ◌++◌, append_assoc, codes, decimal, refl, sym, ◌∙◌, ap}
-use Rattle.comtrade_read.specs.Numbers.{line_end}
+use Rattle.std.specs.List.{concat}
+use Rattle.comtrade_read.specs.Numbers.{line_end, with_ends}
 use Rattle.comtrade_read.specs.Moments.{moment_text, Moment, IsMoment}
-use Rattle.comtrade_read.specs.Channels.{channels_text, form_text}
+use Rattle.comtrade_read.specs.Channels.{channel_lines, channels_text, form_text}
 use Rattle.comtrade_read.specs.Configurations.{Configuration, IsConfiguration, IsName, IsNominal, IsRate, IsCount, configuration_text}
 
 -- the lines between the station's and the nominal frequency's
 abbrev middle : List ℕ
-middle =
-    codes "8,6A,2D" ++ line_end
-    ++ codes "1,IA,A,,mA,1,0,0,-268435455,268435455,1,1,P" ++ line_end
-    ++ codes "2,IB,B,,mA,1,0,0,-268435455,268435455,1,1,P" ++ line_end
-    ++ codes "3,IC,C,,mA,1,0,0,-268435455,268435455,1,1,P" ++ line_end
-    ++ codes "4,UA,A,,mV,10,0,0,-268435455,268435455,1,1,P" ++ line_end
-    ++ codes "5,UB,B,,mV,10,0,0,-268435455,268435455,1,1,P" ++ line_end
-    ++ codes "6,UC,C,,mV,10,0,0,-268435455,268435455,1,1,P" ++ line_end
-    ++ codes "1,GOOD,,,0" ++ line_end
-    ++ codes "2,TRIP,,,0" ++ line_end
+middle = concat (with_ends channel_lines)
 
 abbrev pub behind_first : Configuration → List ℕ
 behind_first c = moment_text c.trip ++ 13 ∷ 10 ∷ form_text

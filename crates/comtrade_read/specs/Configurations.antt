@@ -1,9 +1,10 @@
 -- The configuration of a record, after the ASCII form of COMTRADE 1999 (IEEE C37.111-1999). That it has these channels, and
 -- which names, rates and nominal frequencies there are, is this project's own.
-use Rattle.std.specs.Prelude.{◌≡◌, ◌≢◌, ℕ, ◌≤◌, ◌⊎◌, List, [], ◌∷◌, ◌++◌, length, map, codes, decimal}
+use Rattle.std.specs.Prelude.{◌≡◌, ◌≢◌, ℕ, ◌≤◌, ◌⊎◌, List, [], ◌∷◌, ◌++◌, length, codes, decimal}
 use Rattle.std.specs.List.{concat, AllByRecursion}
-use Rattle.comtrade_read.specs.Numbers.{line_end}
+use Rattle.comtrade_read.specs.Numbers.{with_ends}
 use Rattle.comtrade_read.specs.Moments.{Moment, IsMoment, moment_text}
+use Rattle.comtrade_read.specs.Channels.{channel_lines}
 
 -- the station's name, the nominal frequency, the samples a second and how many, and the moments of the first and of the trip
 pub record Configuration : Type 0 where
@@ -40,23 +41,23 @@ pub record IsConfiguration (c : Configuration) : Type 0 where
   pub first : IsMoment c.first
   pub trip : IsMoment c.trip
 
--- The lines without their ends: the station, how many channels, six analogue ones with unit, factor and range, two status ones,
--- the nominal frequency, one rate with its samples, two moments, the form of the data, and a factor of 1.
+-- the station's name, its device, and the year of the standard
+abbrev pub station_text : List ℕ → List ℕ
+station_text name = name ++ codes ",relay,1999"
+
+-- samples a second, and how many there are
+abbrev pub samples_text : ℕ → ℕ → List ℕ
+samples_text rate count = decimal rate ++ codes "," ++ decimal count
+
+-- The lines without their ends: the station, the channels, the nominal frequency, one rate with its samples, two moments, the
+-- form of the data, and a factor of 1.
 abbrev pub configuration_lines : Configuration → List (List ℕ)
 configuration_lines c =
-    (c.name ++ codes ",relay,1999")
-    ∷ codes "8,6A,2D"
-    ∷ codes "1,IA,A,,mA,1,0,0,-268435455,268435455,1,1,P"
-    ∷ codes "2,IB,B,,mA,1,0,0,-268435455,268435455,1,1,P"
-    ∷ codes "3,IC,C,,mA,1,0,0,-268435455,268435455,1,1,P"
-    ∷ codes "4,UA,A,,mV,10,0,0,-268435455,268435455,1,1,P"
-    ∷ codes "5,UB,B,,mV,10,0,0,-268435455,268435455,1,1,P"
-    ∷ codes "6,UC,C,,mV,10,0,0,-268435455,268435455,1,1,P"
-    ∷ codes "1,GOOD,,,0"
-    ∷ codes "2,TRIP,,,0"
-    ∷ decimal c.nominal
+    station_text c.name
+    ∷ channel_lines
+    ++ decimal c.nominal
     ∷ codes "1"
-    ∷ (decimal c.rate ++ codes "," ++ decimal c.count)
+    ∷ samples_text c.rate c.count
     ∷ moment_text c.first
     ∷ moment_text c.trip
     ∷ codes "ASCII"
@@ -64,4 +65,4 @@ configuration_lines c =
     ∷ []
 
 unfoldable pub configuration_text : Configuration → List ℕ
-configuration_text c = concat (map (λ line. line ++ line_end) (configuration_lines c))
+configuration_text c = concat (with_ends (configuration_lines c))

@@ -27,10 +27,13 @@ abbrev pub BeginsAtZero : List PairSample → Type 0
 BeginsAtZero [] = ⊥
 BeginsAtZero (s ∷ rest) = s.micros ≡ 0
 
--- each with a comma behind it
+-- decimal digits, with one `-` before them exactly where the value is below 0, and a comma
+abbrev pub value_text : ℤ → List ℕ
+value_text value = signed_decimal value ++ codes ","
+
 abbrev pub values_text : List ℤ → List ℕ
 values_text [] = []
-values_text (value ∷ rest) = signed_decimal value ++ codes "," ++ values_text rest
+values_text (value ∷ rest) = value_text value ++ values_text rest
 
 abbrev pub flag_text : Bool → List ℕ
 flag_text true = codes "1"

@@ -17,7 +17,7 @@ use Rattle.line_relay.specs.Outcomes.{number_taken, sample_in, with_sample, outc
 use Rattle.comtrade_read.specs.Rows.{AreValues}
 use Rattle.comtrade_write.specs.declared.covered.Recorded.{Recorded}
 use Rattle.comtrade_write.specs.Covered.{recorded, from_to, number_of_recorded}
-use Rattle.comtrade_write.specs.Said.{six_of}
+use Rattle.comtrade_write.specs.DataTexts.{six_of}
 use Rattle.comtrade_write.proofs.NumberLemmas.{too_low, too_high, from_to-kept}
 
 -- ---- values

@@ -1,5 +1,5 @@
 -- What is written of covered samples is a pair by the grammar.
-use Rattle.std.proofs.Common.{◌≡◌, ℕ, ◌+◌, ◌*◌, ◌/◌, ◌%◌, ◌^◌, ◌<◌, ◌≤◌, Bool, true, false, inl, inr, refl, sym, ap, ◌∙◌, arith, List, [], ◌∷◌, ◌++◌, append_assoc, length, map, codes, decimal, if◌then◌else◌, nat_le, ◌≢◌}
+use Rattle.std.proofs.Common.{◌≡◌, ℕ, ◌+◌, ◌*◌, ◌/◌, ◌%◌, ◌^◌, ◌<◌, ◌≤◌, Bool, true, false, inl, inr, refl, sym, ap, ◌∙◌, arith, List, [], ◌∷◌, ◌++◌, append_assoc, length, map, if◌then◌else◌, nat_le, ◌≢◌}
 use Rattle.std.specs.Prelude.{◌&&◌, ◌==◌}
 use Rattle.std.proofs.lemmas.Bool.{and_parts, leb-true}
 use Rattle.std.proofs.lemmas.Bool.Decides.{nat_tests}
@@ -8,20 +8,17 @@ use Rattle.std.specs.List.{concat, list_all, AllByRecursion}
 use Rattle.std.proofs.lemmas.List.{append-nil}
 use Rattle.relay_settings.specs.declared.types.Common.{Common}
 use Rattle.relay_settings.specs.Ranges.{IsCommon, IsCycle, IsText}
-use Rattle.sample_stream.specs.declared.sample.Sample.{Sample}
-use Rattle.event_record.specs.declared.time.At.{At}
-use Rattle.event_record.specs.Time.{time_of, year_of, month_of, day_of}
-use Rattle.comtrade_read.specs.Moments.{Moment, IsMoment}
-use Rattle.comtrade_read.specs.Configurations.{Configuration, IsName, IsNominal, IsRate, configuration_text}
-use Rattle.comtrade_read.specs.Rows.{AreSamples, flag_text as flag_said, values_text as values_said, row_text, rows_text}
+use Rattle.comtrade_read.specs.Moments.{IsMoment}
+use Rattle.comtrade_read.specs.Configurations.{IsName, IsNominal, IsRate, configuration_text}
+use Rattle.comtrade_read.specs.Rows.{AreSamples, row_text, rows_text}
 use Rattle.comtrade_read.specs.Pairs.{IsPair}
 use Rattle.comtrade_write.specs.declared.covered.Recorded.{Recorded}
 use Rattle.comtrade_write.specs.declared.covered.Span.{Span}
-use Rattle.comtrade_write.specs.Moments.{moment_text}
-use Rattle.comtrade_write.specs.ConfigTexts.{config_lines, plain_byte}
-use Rattle.comtrade_write.specs.DataTexts.{micros_of, data_text, data_lines, lines_from, flag_text, values_text}
+use Rattle.comtrade_write.specs.Moments.{moment_of}
+use Rattle.comtrade_write.specs.ConfigTexts.{config_lines, configuration_of, plain_byte}
+use Rattle.comtrade_write.specs.DataTexts.{micros_of, said_of, data_text, data_lines, lines_from}
 use Rattle.comtrade_write.specs.Recordings.{first_number, span_of}
-use Rattle.comtrade_write.specs.Said.{six_of, said_of, all_said}
+use Rattle.comtrade_write.specs.Said.{all_said}
 use Rattle.comtrade_write.proofs.DayLemmas.{is_day}
 use Rattle.comtrade_write.proofs.CoverLemmas.{Covers, covers-few}
 
@@ -67,54 +64,25 @@ samples_said rate first low top least (r ∷ rest) is from to late covers = (
 
 -- ---- data
 
-flag_same : (b : Bool) → flag_text b ≡ flag_said b
-flag_same true = refl
-flag_same false = refl
-
-lanes : (a b c d e f comma : List ℕ)
-    → (((((a ++ comma) ++ (b ++ comma)) ++ (c ++ comma)) ++ (d ++ comma)) ++ (e ++ comma)) ++ (f ++ comma)
-    ≡ (a ++ comma) ++ ((b ++ comma) ++ ((c ++ comma) ++ ((d ++ comma) ++ ((e ++ comma) ++ ((f ++ comma) ++ [])))))
-lanes a b c d e f comma = simp (append_assoc, append-nil)
-
-values_same : (s : Sample) → values_text s ≡ values_said (six_of s)
-values_same s = lanes _ _ _ _ _ _ (codes ",")
-
-row_same : (rate first i : ℕ) (r : Recorded) → data_text rate first i r ≡ row_text i (said_of rate first r)
-unfolding data_text
-row_same rate first i r =
-    ap (λ v. decimal i ++ codes "," ++ decimal (micros_of rate first r.number) ++ codes "," ++ v ++ flag_text r.sample.good ++ codes "," ++ flag_text r.trip ++ (13 ∷ 10 ∷ [])) (values_same r.sample)
-    ∙ ap (λ g. decimal i ++ codes "," ++ decimal (micros_of rate first r.number) ++ codes "," ++ values_said (six_of r.sample) ++ g ++ codes "," ++ flag_text r.trip ++ (13 ∷ 10 ∷ [])) (flag_same r.sample.good)
-    ∙ ap (λ t. decimal i ++ codes "," ++ decimal (micros_of rate first r.number) ++ codes "," ++ values_said (six_of r.sample) ++ flag_said r.sample.good ++ codes "," ++ t ++ (13 ∷ 10 ∷ [])) (flag_same r.trip)
-
 last_row : (row : List ℕ) → (row ++ 26 ∷ []) ++ [] ≡ (row ++ []) ++ 26 ∷ []
 last_row row = simp append-nil
 
 lines_same : (rate first i : ℕ) (r : Recorded) (rest : List Recorded) → concat (lines_from rate first i (r ∷ rest)) ≡ rows_text i (map (said_of rate first) (r ∷ rest)) ++ 26 ∷ []
-lines_same rate first i r [] =
-    last_row (data_text rate first i r) ∙ ap (λ row. (row ++ []) ++ 26 ∷ []) (row_same rate first i r)
+unfolding data_text
+lines_same rate first i r [] = last_row (row_text i (said_of rate first r))
 lines_same rate first i r (q ∷ rest) =
-    ap (λ row. row ++ concat (lines_from rate first (i + 1) (q ∷ rest))) (append-nil (data_text rate first i r) ∙ row_same rate first i r)
+    ap (λ row. row ++ concat (lines_from rate first (i + 1) (q ∷ rest))) (append-nil (row_text i (said_of rate first r)))
     ∙ ap (λ more. row_text i (said_of rate first r) ++ more) (lines_same rate first (i + 1) q rest)
     ∙ sym (append_assoc (row_text i (said_of rate first r)) (rows_text (i + 1) (map (said_of rate first) (q ∷ rest))) (26 ∷ []))
 
 -- ---- configuration
 
-abbrev moment_at : At → Moment
-moment_at at = record {
-  year = year_of (at.seconds / 86400);
-  month = month_of (at.seconds / 86400);
-  day = day_of (at.seconds / 86400);
-  hour = at.seconds % 86400 / 3600;
-  minute = at.seconds % 86400 / 60 % 60;
-  second = at.seconds % 86400 % 60;
-  micros = at.nanos / 1000;
-}
-
 nanos_few : (rate number : ℕ) → IsRate rate → number % rate * 1000000000 / rate < 10 ^ 9
 nanos_few rate number (inl is) = rw is (omega arith)
 nanos_few rate number (inr is) = rw is (omega arith)
 
-is_moment : (c : Common) (number : ℕ) → IsRate c.rate → IsMoment (moment_at (time_of c number))
+is_moment : (c : Common) (number : ℕ) → IsRate c.rate → IsMoment (moment_of c number)
+unfolding moment_of
 is_moment c number is =
     let seconds = (c.start + number / c.rate) % 2 ^ 32 in
     record {
@@ -127,18 +95,8 @@ is_moment c number is =
       };
     }
 
-abbrev configuration_of : List ℕ → Common → Span → Configuration
-configuration_of name c span = record {
-  name = map plain_byte name;
-  nominal = c.nominal;
-  rate = c.rate;
-  count = span.count;
-  first = moment_at (time_of c span.first);
-  trip = moment_at (time_of c span.trip);
-}
-
 config_same : (name : List ℕ) (c : Common) (span : Span) → concat (config_lines name c span) ≡ configuration_text (configuration_of name c span)
-unfolding config_lines moment_text configuration_text
+unfolding config_lines configuration_text
 config_same name c span = refl
 
 -- ---- names
@@ -182,7 +140,7 @@ pair_of name c trip low top (r ∷ rest) is named short covers some =
     let rated = rate_of c is in
     let span = span_of trip (r ∷ rest) in
     record {
-      configuration = configuration_of (name) c span;
+      configuration = configuration_of name c span;
       ranges = record {
         name = is_name name named;
         nominal = nominal_of c is;

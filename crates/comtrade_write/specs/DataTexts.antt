@@ -1,35 +1,28 @@
--- The data of a record, line by line, after the ASCII form of COMTRADE 1999 (IEEE C37.111-1999).
-use Rattle.std.specs.Prelude.{ℕ, ◌+◌, ◌-◌, ◌*◌, ◌/◌, ◌^◌, Bool, true, false, List, [], ◌∷◌, ◌++◌, codes, decimal, slice_index_or, ℤ, pos}
-use Rattle.std.specs.Fmt.{signed_decimal}
+-- The data of a record, line by line, and what each line says. How a line is spelled is said by the grammar of comtrade_read.
+use Rattle.std.specs.Prelude.{ℕ, ◌+◌, ◌-◌, ◌*◌, ◌/◌, ◌^◌, List, [], ◌∷◌, ◌++◌, slice_index_or, ℤ, pos}
 use Rattle.sample_stream.specs.declared.sample.Sample.{Sample}
+use Rattle.comtrade_read.specs.declared.data.PairSample.{PairSample}
+use Rattle.comtrade_read.specs.Rows.{row_text}
 use Rattle.comtrade_write.specs.declared.covered.Recorded.{Recorded}
-use Rattle.comtrade_write.specs.ConfigTexts.{line_end}
 
 -- the time of a sample after the first, in whole microseconds, rounded down
 abbrev pub micros_of : ℕ → ℕ → ℕ → ℕ
 micros_of rate first number = (number - first) * 10 ^ 6 / rate
 
--- decimal digits, with one `-` before them exactly where the value is below 0
-abbrev pub value_text : ℤ → List ℕ
-value_text value = signed_decimal value ++ codes ","
-
-abbrev pub lane_text : Sample → ℕ → List ℕ
-lane_text sample lane = value_text (slice_index_or sample.values lane (pos 0))
-
 -- IA, IB, IC, UA, UB and UC
-abbrev pub values_text : Sample → List ℕ
-values_text sample =
-    lane_text sample 0 ++ lane_text sample 1 ++ lane_text sample 2 ++ lane_text sample 4 ++ lane_text sample 5 ++ lane_text sample 6
+abbrev pub six_of : Sample → List ℤ
+six_of sample =
+    let lane : ℕ → ℤ = λ k. slice_index_or sample.values k (pos 0) in
+    lane 0 ∷ lane 1 ∷ lane 2 ∷ lane 4 ∷ lane 5 ∷ lane 6 ∷ []
 
-abbrev pub flag_text : Bool → List ℕ
-flag_text true = codes "1"
-flag_text false = codes "0"
+-- what the line of a sample says, where the first has this number: its time after the first, its six values, whether it is good
+-- and whether the trip stands
+abbrev pub said_of : ℕ → ℕ → Recorded → PairSample
+said_of rate first r = record { micros = micros_of rate first r.number; values = six_of r.sample; good = r.sample.good; trip = r.trip }
 
--- the line of the i-th sample, where the first has this number
+-- the line of the i-th sample
 unfoldable pub data_text : ℕ → ℕ → ℕ → Recorded → List ℕ
-data_text rate first i r =
-    decimal i ++ codes "," ++ decimal (micros_of rate first r.number) ++ codes ","
-    ++ values_text r.sample ++ flag_text r.sample.good ++ codes "," ++ flag_text r.trip ++ line_end
+data_text rate first i r = row_text i (said_of rate first r)
 
 -- behind the last line stands the end of the file
 abbrev pub file_end : List Recorded → List ℕ

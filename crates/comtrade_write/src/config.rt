@@ -1,6 +1,7 @@
 //! The lines of the configuration.
-ghost use Rattle.std.specs.Prelude.{◌≡◌, ◌≤◌, ◌<◌, ◌+◌, ◌-◌, ◌^◌, ◌++◌, [], length, slice_get, Some};
-ghost use Rattle.comtrade_write.specs.ConfigTexts.{config_lines, config_texts, station_text, samples_text, plain_byte};
+ghost use Rattle.std.specs.Prelude.{◌≡◌, ◌≤◌, ◌<◌, ◌-◌, [], length, map, slice_get, Some};
+ghost use Rattle.comtrade_read.specs.Configurations.{configuration_lines, station_text, samples_text};
+ghost use Rattle.comtrade_write.specs.ConfigTexts.{config_lines, configuration_of, plain_byte};
 
 use crate::covered::Span;
 use crate::moment::put_moment;
@@ -34,7 +35,7 @@ fn put_text(out: &mut ArrayVec<u8, 160>, name: &[u8], common: &Common, span: &Sp
     requires low { 1 ≤ i }
     requires high { i ≤ 17 }
     requires room { out.old.items ≡ [] }
-    ensures text { slice_get (config_texts name.now common.now span.now) (i - 1) ≡ Some out.new.items }
+    ensures text { slice_get (configuration_lines (configuration_of name.now common.now span.now)) (i - 1) ≡ Some out.new.items }
     ensures long { length out.new.items ≤ 50 }
 {
     match i {
@@ -62,7 +63,7 @@ fn put_text(out: &mut ArrayVec<u8, 160>, name: &[u8], common: &Common, span: &Sp
 fn put_station(out: &mut ArrayVec<u8, 160>, name: &[u8])
     requires name { length name.now ≤ 16 }
     requires room { out.old.items ≡ [] }
-    ensures bytes { out.new.items ≡ station_text name.now }
+    ensures bytes { out.new.items ≡ station_text (map plain_byte name.now) }
     ensures long { length out.new.items ≤ 27 }
 {
     for byte in name {

@@ -1,7 +1,7 @@
 //! The lines of the data.
 ghost use Rattle.std.specs.Prelude.{◌≡◌, ◌≤◌, ◌<◌, ◌+◌, ◌-◌, ◌*◌, ◌/◌, ◌^◌, ◌++◌, [], ◌∷◌, length, codes, slice_index_or, pos, if◌then◌else◌};
-ghost use Rattle.std.specs.Fmt.{signed_decimal};
-ghost use Rattle.comtrade_write.specs.DataTexts.{data_text, values_text, value_text, flag_text, micros_of};
+ghost use Rattle.comtrade_read.specs.Rows.{values_text, value_text, flag_text};
+ghost use Rattle.comtrade_write.specs.DataTexts.{data_text, six_of, micros_of};
 
 use crate::covered::Recorded;
 use crate::numbers::{put_number, put_signed};
@@ -56,7 +56,7 @@ fn micros(rate: u32, first: u64, number: u64) -> u64
 /// Appends the currents and the voltages of a sample, each with a comma behind it.
 fn put_values(out: &mut ArrayVec<u8, 160>, sample: &Sample)
     requires { length out.old.items ≤ 20 }
-    ensures bytes { out.new.items ≡ out.old.items ++ values_text sample.now }
+    ensures bytes { out.new.items ≡ out.old.items ++ values_text (six_of sample.now) }
     ensures long { length out.new.items ≤ length out.old.items + 126 }
 {
     put_lane(out, &sample.values, 0);

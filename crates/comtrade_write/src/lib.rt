@@ -7,11 +7,12 @@
 //! this project's own; nothing is said of records that others write.
 //!
 //! The definition is over the list of all sample sets, the newest first. Read `specs/Covered` (which samples a
-//! record covers), `specs/ConfigTexts` and `specs/DataTexts` (the lines), and `specs/Recordings` (the record of a
-//! line after the sample sets that were heard); `specs/KeptWindow` and `specs/KeptRecorder` say what the code keeps.
+//! record covers), `specs/ConfigTexts` and `specs/DataTexts` (what the lines say), and `specs/Recordings` (the record
+//! of a line after the sample sets that were heard); `specs/KeptWindow` and `specs/KeptRecorder` say what the code
+//! keeps. How a line is spelled stands once, in the grammar of `comtrade_read`, which reads a pair back.
 //! It stands on `line_relay`, whose `Line` tells when a trip begins and ends and whose `Front` gives the samples, on
-//! `circular_buffer` for the samples that are kept, on `jiff` for dates, and on `comtrade_read`, which reads a pair
-//! back and whose grammar the law in `laws` is about. It takes memory only in `Recorder::new`.
+//! `event_record` for their times, on `circular_buffer` for the samples that are kept, and on `comtrade_read`. It
+//! takes memory only in `Recorder::new`.
 #![tactic(auto)]
 
 mod config;

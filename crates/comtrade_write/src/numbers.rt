@@ -1,7 +1,6 @@
 //! Numbers at the end of a line.
 ghost use Rattle.std.specs.Prelude.{◌≡◌, ◌≤◌, ◌<◌, ◌+◌, ◌^◌, ◌++◌, length, decimal};
 ghost use Rattle.std.specs.Fmt.{signed_decimal};
-ghost use Rattle.event_record.specs.Time.{fixed};
 
 use arrayvec::ArrayVec;
 use relay_num::put_decimal;
@@ -26,16 +25,4 @@ pub(crate) fn put_signed(out: &mut ArrayVec<u8, 160>, value: i64)
         out.push(b'-');
     }
     put_decimal(out, value.unsigned_abs());
-}
-
-/// Appends the last `width` decimal digits of a value, with zeros in front.
-pub(crate) fn put_fixed(out: &mut ArrayVec<u8, 160>, width: usize, value: u32)
-    requires { length out.old.items + width ≤ 160 }
-    ensures bytes { out.new.items ≡ out.old.items ++ fixed width value }
-    ensures long { length out.new.items ≡ length out.old.items + width }
-{
-    if width > 0 {
-        put_fixed(out, width - 1, value / 10);
-        out.push(b'0' + (value % 10) as u8);
-    }
 }
