@@ -54,7 +54,7 @@ fn pass_over<R: Room>(room: &mut R, count: u64) -> Result<bool, Fault>
 }
 
 impl Block {
-    ghost use Rattle.capture_feed.specs.Block.{pending};
+    ghost use Rattle.capture_feed.specs.Block.{pending, Fills};
 
     /// An empty block of 64 KiB.
     pub fn new(alloc: Global) -> Result<Block, NoMemory>
@@ -130,15 +130,7 @@ impl Block {
         requires ready { IsReadyIn Capture (R.state room.old) }
         requires few { need ≤ 4096 }
         requires fewer { length (pending self.old) < need }
-        ensures left { IsTrue (R.state room.old).tells →
-            pending self.old ++ (R.state room.old).capture.bytes ≡
-            pending self.new ++ (R.state room.new).capture.bytes }
-        ensures end { OnOk result (IsTrue (R.state room.old).tells →
-            length (pending self.new) < need → (R.state room.new).capture.bytes ≡ []) }
-        ensures short { OnErr result (length (pending self.new) < need) }
-        ensures reads { OnlyReads (R.state room.old) (R.state room.new) }
-        ensures failed { OnErr result (Rose (R.state room.old).capture.faults
-            (R.state room.new).capture.faults) }
+        ensures { Fills need self.old self.new (R.state room.old) (R.state room.new) result }
     {
         self.move_to_front();
         while self.end < need {
@@ -153,15 +145,7 @@ impl Block {
     pub fn fill<R: Room>(&mut self, room: &mut R, need: usize) -> Result<(), Fault>
         requires ready { IsReadyIn Capture (R.state room.old) }
         requires few { need ≤ 4096 }
-        ensures left { IsTrue (R.state room.old).tells →
-            pending self.old ++ (R.state room.old).capture.bytes ≡
-            pending self.new ++ (R.state room.new).capture.bytes }
-        ensures end { OnOk result (IsTrue (R.state room.old).tells →
-            length (pending self.new) < need → (R.state room.new).capture.bytes ≡ []) }
-        ensures short { OnErr result (length (pending self.new) < need) }
-        ensures reads { OnlyReads (R.state room.old) (R.state room.new) }
-        ensures failed { OnErr result (Rose (R.state room.old).capture.faults
-            (R.state room.new).capture.faults) }
+        ensures { Fills need self.old self.new (R.state room.old) (R.state room.new) result }
     {
         if self.end - self.at >= need {
             return Ok(());

@@ -1,4 +1,4 @@
-use Rattle.std.proofs.Common.{◌∙◌}
+use Rattle.std.proofs.Common.{◌∙◌, rules}
 use Rattle.capture_feed.proofs.PieceLoops.{OnlyReads-trans, told_after}
 use Rattle.capture_feed.proofs.block.Block.read_until.Goals as goal
 
@@ -9,8 +9,20 @@ loop-self-preserved g c = record {
   left = λ told. c.loop-self.invariant.left told ∙ c.read_once.ensures.left (told_after c.loop-self.invariant.reads told);
 }
 
-pub returns-then-branch-eq0-clause-reads : goal.returns-then-branch-eq0-clause-reads
-returns-then-branch-eq0-clause-reads g c = OnlyReads-trans c.loop-self.invariant.reads c.read_once.ensures.reads
+pub returns-then-branch-eq0 : goal.returns-then-branch-eq0
+returns-then-branch-eq0 g c = record {
+  left = λ told. c.loop-self.invariant.left told ∙ c.read_once.ensures.left (told_after c.loop-self.invariant.reads told);
+  end = search rules;
+  short = search rules;
+  reads = OnlyReads-trans c.loop-self.invariant.reads c.read_once.ensures.reads;
+  failed = search rules;
+}
 
-pub returns-in_err-read_once-clause-reads : goal.returns-in_err-read_once-clause-reads
-returns-in_err-read_once-clause-reads g c = OnlyReads-trans c.loop-self.invariant.reads c.read_once.ensures.reads
+pub returns-in_err-read_once : goal.returns-in_err-read_once
+returns-in_err-read_once g c = record {
+  left = λ told. c.loop-self.invariant.left told ∙ c.read_once.ensures.left (told_after c.loop-self.invariant.reads told);
+  end = search rules;
+  short = search rules;
+  reads = OnlyReads-trans c.loop-self.invariant.reads c.read_once.ensures.reads;
+  failed = search rules;
+}

@@ -8,7 +8,7 @@ invariant-loop-self g l = record {
   front : l.self.at ≡ 0;
   reads : OnlyReads (g.R.Room.state l.initial.room) (g.R.Room.state l.room);
   left : IsTrue (g.R.Room.state l.initial.room).tells →
-      pending l.initial.self ++ (g.R.Room.state l.initial.room).capture.bytes ≡ pending l.self ++ (g.R.Room.state l.room).capture.bytes;
+      pending l.fn.self ++ (g.R.Room.state l.initial.room).capture.bytes ≡ pending l.self ++ (g.R.Room.state l.room).capture.bytes;
 }
 
 abbrev pub decreases-loop-self : goal.decreases-loop-self
