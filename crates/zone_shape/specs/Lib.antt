@@ -1,3 +1,4 @@
+pub mod LoopBounds
 pub mod Polarising
 pub mod Shapes
 pub mod ZoneParts

@@ -1,9 +1,8 @@
 //! A loop with what the shapes of all zones ask of it.
 ghost use Rattle.std.specs.Prelude.{◌≡◌};
 ghost use Rattle.std.specs.Option.{ForSome};
-ghost use Rattle.relay_num.specs.Bounds.{loop_voltage_bound, loop_current_bound, polarising_bound};
-ghost use Rattle.relay_num.specs.Numbers.{IsBelow};
 ghost use Rattle.quad_zone.specs.Impedances.{IsImpedance};
+ghost use Rattle.zone_shape.specs.LoopBounds.{IsLoopInBounds};
 ghost use Rattle.zone_shape.specs.Polarising.{IsPolarisedBy};
 
 use crate::towards;
@@ -24,9 +23,7 @@ pub struct FormedLoop {
     pub pol: Option<Cx>,
     impedance: Option<LoopImpedance>,
     polarised: Option<Polarised>,
-    ghost u_size: { IsBelow u loop_voltage_bound },
-    ghost i_size: { IsBelow i loop_current_bound },
-    ghost pol_size: { ForSome pol (λ p. IsBelow p polarising_bound) },
+    ghost bounds: { IsLoopInBounds u i pol },
     ghost impedance_is: { ForSome impedance (IsImpedance u i) },
     ghost polarised_is: { ForSome polarised (IsPolarisedBy u i pol) },
 }
@@ -34,19 +31,18 @@ pub struct FormedLoop {
 impl FormedLoop {
     ghost use Rattle.std.specs.Prelude.{◌≡◌, ◌≤◌, ◌+◌};
     ghost use Rattle.std.specs.Option.{ForSome};
-    ghost use Rattle.relay_num.specs.Bounds.{reach_bound, loop_voltage_bound, loop_current_bound, polarising_bound};
+    ghost use Rattle.relay_num.specs.Bounds.{reach_bound};
     ghost use Rattle.relay_num.specs.Numbers.{IsBelow};
     ghost use Rattle.relay_settings.specs.declared.types.Shape.TheVariants.{Mho, Quad};
     ghost use Rattle.relay_settings.specs.Ranges.{IsQuad};
+    ghost use Rattle.zone_shape.specs.LoopBounds.{IsLoopInBounds};
     ghost use Rattle.zone_shape.specs.Polarising.{IsPolarisedBy};
     ghost use Rattle.zone_shape.specs.Shapes.{has_shape};
 
     /// A loop of which nothing is formed yet.
     #[inline(always)]
     pub fn unformed(u: Cx, i: Cx, pol: Option<Cx>) -> FormedLoop
-        requires u { IsBelow u loop_voltage_bound }
-        requires i { IsBelow i loop_current_bound }
-        requires pol { ForSome pol (λ p. IsBelow p polarising_bound) }
+        requires { IsLoopInBounds u i pol }
         ensures u { result.u ≡ u }
         ensures i { result.i ≡ i }
         ensures pol { result.pol ≡ pol }

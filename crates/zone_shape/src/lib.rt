@@ -8,10 +8,10 @@
 #![tactic(auto)]
 
 ghost use Rattle.std.specs.Prelude.{◌≡◌, ◌≤◌, ◌+◌, if◌then◌else◌};
-ghost use Rattle.std.specs.Option.{ForSome};
-ghost use Rattle.relay_num.specs.Bounds.{loop_voltage_bound, loop_current_bound, polarising_bound};
+ghost use Rattle.relay_num.specs.Bounds.{loop_current_bound};
 ghost use Rattle.relay_num.specs.Numbers.{IsBelow, opposite};
 ghost use Rattle.relay_settings.specs.Ranges.{IsShape};
+ghost use Rattle.zone_shape.specs.LoopBounds.{IsLoopInBounds};
 ghost use Rattle.zone_shape.specs.Shapes.{is_inside, has_shape};
 
 use mho_zone::mho_inside;
@@ -41,9 +41,7 @@ pub fn shape_holds<L: Ledger>(
     steps: &mut Steps<L>,
 ) -> bool
     requires shape { IsShape shape.now }
-    requires u { IsBelow u loop_voltage_bound }
-    requires i { IsBelow i loop_current_bound }
-    requires pol { ForSome pol (λ p. IsBelow p polarising_bound) }
+    requires bounds { IsLoopInBounds u i pol }
     ensures shape { result ≡ has_shape shape.now reversed u i pol }
     ensures cost { steps.new ≤ steps.old + 1 }
 {
@@ -62,9 +60,7 @@ fn towards(reversed: bool, i: Cx) -> Cx
 /// Whether the loop is inside the shape, whichever way the zone looks.
 fn holds<L: Ledger>(shape: &Shape, u: Cx, i: Cx, pol: Option<Cx>, steps: &mut Steps<L>) -> bool
     requires shape { IsShape shape.now }
-    requires u { IsBelow u loop_voltage_bound }
-    requires i { IsBelow i loop_current_bound }
-    requires pol { ForSome pol (λ p. IsBelow p polarising_bound) }
+    requires bounds { IsLoopInBounds u i pol }
     ensures shape { result ≡ is_inside shape.now u i pol }
     ensures cost { steps.new ≤ steps.old + 1 }
 {

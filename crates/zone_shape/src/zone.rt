@@ -3,9 +3,8 @@
 ghost use Rattle.std.specs.Prelude.{◌≡◌, ◌<◌, ◌≤◌, ◌+◌};
 ghost use Rattle.std.specs.Option.{ForSome};
 ghost use Rattle.std.specs.List.{list_any};
-ghost use Rattle.relay_num.specs.Bounds.{loop_voltage_bound, loop_current_bound, polarising_bound};
-ghost use Rattle.relay_num.specs.Numbers.{IsBelow};
 ghost use Rattle.relay_settings.specs.Ranges.{IsZone, IsZonePart};
+ghost use Rattle.zone_shape.specs.LoopBounds.{IsLoopInBounds};
 ghost use Rattle.zone_shape.specs.ZoneParts.{part_of, is_reverse, is_in_zone, is_quad_part, has_quad};
 
 use crate::shape_holds;
@@ -25,9 +24,7 @@ pub fn zone_holds<L: Ledger>(
     steps: &mut Steps<L>,
 ) -> bool
     requires zone { IsZone zone.now }
-    requires u { IsBelow u loop_voltage_bound }
-    requires i { IsBelow i loop_current_bound }
-    requires pol { ForSome pol (λ p. IsBelow p polarising_bound) }
+    requires bounds { IsLoopInBounds u i pol }
     ensures zone { result ≡ is_in_zone zone.now lp u i pol }
     ensures cost { steps.new ≤ steps.old + 1 }
 {
