@@ -1,17 +1,18 @@
 -- A burst's events say whether the trip stands behind them: of all that is told, the change of the trip alone tells it.
-use Rattle.std.proofs.Common.{◌≡◌, ◌∙◌, ℕ, zero, suc, ◌+◌, Bool, true, false, not, ◌&&◌, ◌||◌, refl, ap, ap₂, List, [], ◌∷◌, ◌++◌, Option, slice_index}
+use Rattle.std.proofs.Common.{◌≡◌, ◌∙◌, ℕ, zero, suc, ◌+◌, Bool, true, false, not, ◌&&◌, ◌||◌, refl, ap, ap₂, List, [], ◌∷◌, ◌++◌, Option}
 use Rattle.std.specs.List.{list_any}
 use Rattle.std.proofs.lemmas.Bool.{or_from}
 use Rattle.std.proofs.lemmas.List.Folds.{list_any-append}
 use Rattle.sample_stream.specs.declared.numberer.Taken.TheVariants as taken
-use Rattle.loop_impedance.specs.Masks.{has_bit}
 use Rattle.event_record.specs.declared.time.At.{At}
 use Rattle.event_record.specs.declared.event.What.{What}
 use Rattle.event_record.specs.declared.event.What.TheVariants.{First, Jump, Ready, Lost, SwingOn, SwingOff, FuseOn, FuseOff, Entered, Left, Operate, Trip, Reset, ConfRev, Length, Wild, Repeat, Late}
 use Rattle.line_relay.specs.declared.front.Outcome.{Outcome}
 use Rattle.line_relay.specs.declared.front.Outcome.TheVariants as outcomes
 use Rattle.line_relay.specs.Facts.{Facts}
-use Rattle.line_relay.specs.Events.{arrival, edge, begins, concat_below, loop_edges, loop_beginnings, zone_edges, zone_beginnings, changes, told}
+use Rattle.line_relay.specs.declared.events.LoopFact.{LoopFact}
+use Rattle.line_relay.specs.declared.events.LoopFact.TheVariants.{Inside, Operates}
+use Rattle.line_relay.specs.Events.{arrival, edge, begins, concat_below, loop_edge, loop_edges, zone_edges, changes, told}
 use Rattle.breaker_guard.specs.TripEvents.{is_trip, is_reset, tells, trip_after}
 
 tells-told : (p : What → Bool) (at : Option At) (whats : List What) → list_any (tells p) (told at whats) ≡ list_any p whats
@@ -55,23 +56,13 @@ module _ (p : What → Bool) (of : IsOfTrips p) where
   concat-none zero f each = refl
   concat-none (suc n) f each = both-none (concat_below n f) (f n) (concat-none n f each) (each n)
 
-  loops-none : (zone before now : ℕ) → list_any p (loop_edges zone before now) ≡ false
-  unfolding loop_edges
-  loops-none zone before now =
-      concat-none 6 _ (λ lp. edge-none (Entered zone lp) (Left zone lp) (has_bit lp before) (has_bit lp now) (one (Entered zone lp) refl refl) (one (Left zone lp) refl refl))
+  loop_edge-none : (fact : LoopFact) (zone lp : ℕ) (before now : Bool) → list_any p (loop_edge fact zone lp before now) ≡ false
+  loop_edge-none Inside zone lp before now = edge-none (Entered zone lp) (Left zone lp) before now (one (Entered zone lp) refl refl) (one (Left zone lp) refl refl)
+  loop_edge-none Operates zone lp before now = begins-none (Operate zone lp) before now (one (Operate zone lp) refl refl)
 
-  beginnings-none : (zone before now : ℕ) → list_any p (loop_beginnings zone before now) ≡ false
-  unfolding loop_beginnings
-  beginnings-none zone before now =
-      concat-none 6 _ (λ lp. begins-none (Operate zone lp) (has_bit lp before) (has_bit lp now) (one (Operate zone lp) refl refl))
-
-  zone_edges-none : (before now : List ℕ) → list_any p (zone_edges before now) ≡ false
-  unfolding zone_edges
-  zone_edges-none before now = concat-none 5 _ (λ place. loops-none (place + 1) (slice_index before place) (slice_index now place))
-
-  zone_beginnings-none : (before now : List ℕ) → list_any p (zone_beginnings before now) ≡ false
-  unfolding zone_beginnings
-  zone_beginnings-none before now = concat-none 5 _ (λ place. beginnings-none (place + 1) (slice_index before place) (slice_index now place))
+  zone_edges-none : (fact : LoopFact) (before now : List ℕ) → list_any p (zone_edges fact before now) ≡ false
+  unfolding zone_edges loop_edges
+  zone_edges-none fact before now = concat-none 5 _ (λ place. concat-none 6 _ (λ lp. loop_edge-none fact (place + 1) lp _ _))
 
   -- of all changes that of the trip is left
   changes-tell : (before now : Facts) → list_any p (changes before now) ≡ list_any p (edge Trip Reset before.trip now.trip)
@@ -82,8 +73,8 @@ module _ (p : What → Bool) (of : IsOfTrips p) where
       (edge-none Ready Lost before.ready now.ready (one Ready refl refl) (one Lost refl refl))
       (edge-none SwingOn SwingOff before.swing now.swing (one SwingOn refl refl) (one SwingOff refl refl)))
       (edge-none FuseOn FuseOff before.fuse now.fuse (one FuseOn refl refl) (one FuseOff refl refl)))
-      (zone_edges-none before.inside now.inside))
-      (zone_beginnings-none before.operate now.operate))
+      (zone_edges-none Inside before.inside now.inside))
+      (zone_edges-none Operates before.operate now.operate))
 
   burst-tells : (at : Option At) (counter : ℕ) (o : Outcome) (before now : Facts) →
       list_any (tells p) (told at (arrival counter o ++ changes before now)) ≡ list_any p (edge Trip Reset before.trip now.trip)

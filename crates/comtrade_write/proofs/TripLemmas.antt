@@ -15,7 +15,9 @@ use Rattle.event_record.specs.declared.event.Event.TheVariants.{Line}
 use Rattle.line_relay.specs.declared.front.Outcome.{Outcome}
 use Rattle.line_relay.specs.declared.front.Outcome.TheVariants as outcomes
 use Rattle.line_relay.specs.Facts.{Facts, facts_of}
-use Rattle.line_relay.specs.Events.{arrival, edge, begins, changes, told, concat_below, loop_edges, loop_beginnings, zone_edges, zone_beginnings}
+use Rattle.line_relay.specs.declared.events.LoopFact.{LoopFact}
+use Rattle.line_relay.specs.declared.events.LoopFact.TheVariants.{Inside, Operates}
+use Rattle.line_relay.specs.Events.{arrival, edge, begins, changes, told, concat_below, loop_edge, loop_edges, zone_edges}
 use Rattle.line_relay.specs.Outcomes.{outcome_of, taken_samples}
 use Rattle.line_relay.specs.Bursts.{moment, burst}
 use Rattle.comtrade_write.specs.Recordings.{is_trip_what, is_trip}
@@ -69,17 +71,13 @@ unfolding concat_below
 quiet-concat zero f each = quiet-nil
 quiet-concat (suc n) f each = quiet-append _ _ (quiet-concat n f each) (each n)
 
-quiet-zone_edges : (before now : List ℕ) → IsQuiet (zone_edges before now)
-unfolding zone_edges loop_edges
-quiet-zone_edges before now =
-    quiet-concat 5 _ (λ place. quiet-concat 6 _ (λ lp.
-    quiet-edge (Entered (place + 1) lp) (Left (place + 1) lp) _ _ (record { keeps = λ stands. refl; other = refl }) (record { keeps = λ stands. refl; other = refl })))
+quiet-loop_edge : (fact : LoopFact) (zone lp : ℕ) (before now : Bool) → IsQuiet (loop_edge fact zone lp before now)
+quiet-loop_edge Inside zone lp before now = quiet-edge (Entered zone lp) (Left zone lp) before now (record { keeps = λ stands. refl; other = refl }) (record { keeps = λ stands. refl; other = refl })
+quiet-loop_edge Operates zone lp before now = quiet-begins (Operate zone lp) before now (record { keeps = λ stands. refl; other = refl })
 
-quiet-zone_beginnings : (before now : List ℕ) → IsQuiet (zone_beginnings before now)
-unfolding zone_beginnings loop_beginnings
-quiet-zone_beginnings before now =
-    quiet-concat 5 _ (λ place. quiet-concat 6 _ (λ lp.
-    quiet-begins (Operate (place + 1) lp) _ _ (record { keeps = λ stands. refl; other = refl })))
+quiet-zone_edges : (fact : LoopFact) (before now : List ℕ) → IsQuiet (zone_edges fact before now)
+unfolding zone_edges loop_edges
+quiet-zone_edges fact before now = quiet-concat 5 _ (λ place. quiet-concat 6 _ (λ lp. quiet-loop_edge fact (place + 1) lp _ _))
 
 -- what stands before the trip's own change
 abbrev other_changes : Facts → Facts → List What
@@ -87,8 +85,8 @@ other_changes before now =
     edge Ready Lost before.ready now.ready
     ++ edge SwingOn SwingOff before.swing now.swing
     ++ edge FuseOn FuseOff before.fuse now.fuse
-    ++ zone_edges before.inside now.inside
-    ++ zone_beginnings before.operate now.operate
+    ++ zone_edges Inside before.inside now.inside
+    ++ zone_edges Operates before.operate now.operate
 
 quiet-others : (before now : Facts) → IsQuiet (other_changes before now)
 quiet-others before now =
@@ -96,8 +94,8 @@ quiet-others before now =
     (quiet-edge Ready Lost before.ready now.ready (record { keeps = λ stands. refl; other = refl }) (record { keeps = λ stands. refl; other = refl }))
     (quiet-edge SwingOn SwingOff before.swing now.swing (record { keeps = λ stands. refl; other = refl }) (record { keeps = λ stands. refl; other = refl })))
     (quiet-edge FuseOn FuseOff before.fuse now.fuse (record { keeps = λ stands. refl; other = refl }) (record { keeps = λ stands. refl; other = refl })))
-    (quiet-zone_edges before.inside now.inside))
-    (quiet-zone_beginnings before.operate now.operate)
+    (quiet-zone_edges Inside before.inside now.inside))
+    (quiet-zone_edges Operates before.operate now.operate)
 
 trip-edge : (before now : Bool) → fold trip_of before (edge Trip Reset before now) ≡ now
 trip-edge false true = refl

@@ -18,12 +18,14 @@ use Rattle.event_record.specs.declared.event.Event.TheVariants.{Line}
 use Rattle.event_record.specs.Printable.{IsZoneLoop, IsPrintableWhat, IsPrintableAt, IsPrintable}
 use Rattle.line_relay.specs.declared.front.Outcome.{Outcome}
 use Rattle.line_relay.specs.declared.front.Outcome.TheVariants as outcomes
+use Rattle.line_relay.specs.declared.events.LoopFact.{LoopFact}
+use Rattle.line_relay.specs.declared.events.LoopFact.TheVariants.{Inside, Operates}
 use Rattle.trip_logic.specs.declared.TripState.{TripState}
 use Rattle.trip_logic.specs.Takes.{changed}
 use Rattle.line_relay.specs.declared.shown.Shown.{Shown}
 use Rattle.line_relay.specs.Facts.{Facts}
 use Rattle.line_relay.specs.Shown.{facts_shown, trip_edge, shown_changes}
-use Rattle.line_relay.specs.Events.{arrival, edge, begins, changes, told, concat_below, loop_edges, loop_beginnings, zone_edges, zone_beginnings}
+use Rattle.line_relay.specs.Events.{arrival, edge, begins, changes, told, concat_below, loop_edge, loop_edges, zone_edges}
 
 one : (what : What) → IsPrintableWhat what → All IsPrintableWhat (what ∷ [])
 one what h = All-push IsPrintableWhat [] what (All-nil IsPrintableWhat) h
@@ -54,30 +56,20 @@ unfolding concat_below
 concat-printable zero f each = All-nil IsPrintableWhat
 concat-printable (suc n) f each = All-append IsPrintableWhat _ _ (concat-printable n f (λ k h. each k (omega arith))) (each n (omega arith))
 
+loop_edge-printable : (fact : LoopFact) (zone lp : ℕ) (before now : Bool) → IsZoneLoop zone lp → All IsPrintableWhat (loop_edge fact zone lp before now)
+loop_edge-printable Inside zone lp before now here = edge-printable (Entered zone lp) (Left zone lp) before now here here
+loop_edge-printable Operates zone lp before now here = begins-printable (Operate zone lp) before now here
+
 -- a zone from 1 to 5
-loops-printable : (zone before now : ℕ) → 1 ≤ zone → zone ≤ 5 → All IsPrintableWhat (loop_edges zone before now)
+loop_edges-printable : (fact : LoopFact) (zone before now : ℕ) → 1 ≤ zone → zone ≤ 5 → All IsPrintableWhat (loop_edges fact zone before now)
 unfolding loop_edges
-loops-printable zone before now low high =
-    concat-printable 6 _ (λ lp h.
-    let here : IsZoneLoop zone lp = (low, high, omega arith) in
-    edge-printable (Entered zone lp) (Left zone lp) (has_bit lp before) (has_bit lp now) here here)
+loop_edges-printable fact zone before now low high =
+    concat-printable 6 _ (λ lp h. loop_edge-printable fact zone lp (has_bit lp before) (has_bit lp now) (low, high, omega arith))
 
-beginnings-printable : (zone before now : ℕ) → 1 ≤ zone → zone ≤ 5 → All IsPrintableWhat (loop_beginnings zone before now)
-unfolding loop_beginnings
-beginnings-printable zone before now low high =
-    concat-printable 6 _ (λ lp h.
-    let here : IsZoneLoop zone lp = (low, high, omega arith) in
-    begins-printable (Operate zone lp) (has_bit lp before) (has_bit lp now) here)
-
-zone_edges-printable : (before now : List ℕ) → All IsPrintableWhat (zone_edges before now)
+zone_edges-printable : (fact : LoopFact) (before now : List ℕ) → All IsPrintableWhat (zone_edges fact before now)
 unfolding zone_edges
-zone_edges-printable before now =
-    concat-printable 5 _ (λ place h. loops-printable (place + 1) (slice_index before place) (slice_index now place) (omega arith) (omega arith))
-
-zone_beginnings-printable : (before now : List ℕ) → All IsPrintableWhat (zone_beginnings before now)
-unfolding zone_beginnings
-zone_beginnings-printable before now =
-    concat-printable 5 _ (λ place h. beginnings-printable (place + 1) (slice_index before place) (slice_index now place) (omega arith) (omega arith))
+zone_edges-printable fact before now =
+    concat-printable 5 _ (λ place h. loop_edges-printable fact (place + 1) (slice_index before place) (slice_index now place) (omega arith) (omega arith))
 
 trip-printable : (trip : TripState) → All IsPrintableWhat (trip_edge trip)
 trip-printable trip = either trip.rose trip.fell
@@ -97,8 +89,8 @@ changes-printable before now trip =
     (edge-printable Ready Lost before.ready now.ready tt tt)
     (edge-printable SwingOn SwingOff before.swing now.swing tt tt))
     (edge-printable FuseOn FuseOff before.fuse now.fuse tt tt))
-    (zone_edges-printable before.inside now.inside))
-    (zone_beginnings-printable before.operate now.operate))
+    (zone_edges-printable Inside before.inside now.inside))
+    (zone_edges-printable Operates before.operate now.operate))
     (trip-printable trip)
 
 -- what is shown and the trip tell the changes of the facts
@@ -106,7 +98,7 @@ pub shown_changes-are : (before now : Shown) (trip : TripState) (was : Bool) →
     shown_changes before now trip ≡ changes (facts_shown before was) (facts_shown now trip.on)
 shown_changes-are before now trip was e =
     ap (λ whats. edge Ready Lost before.ready now.ready ++ edge SwingOn SwingOff before.swing now.swing ++ edge FuseOn FuseOff before.fuse now.fuse
-    ++ zone_edges before.inside now.inside ++ zone_beginnings before.operate now.operate ++ whats) (ap trip_edge e ∙ either was trip.on)
+    ++ zone_edges Inside before.inside now.inside ++ zone_edges Operates before.operate now.operate ++ whats) (ap trip_edge e ∙ either was trip.on)
   where
     either : (was on : Bool) → trip_edge (changed was on) ≡ edge Trip Reset was on
     either true true = refl
@@ -131,21 +123,17 @@ unfolding concat_below
 concat-none zero f none = refl
 concat-none (suc n) f none = ap₂ (λ xs ys. xs ++ ys) (concat-none n f none) (none n)
 
-pub loop_edges-same : (zone mask : ℕ) → loop_edges zone mask mask ≡ []
+loop_edge-same : (fact : LoopFact) (zone lp : ℕ) (b : Bool) → loop_edge fact zone lp b b ≡ []
+loop_edge-same Inside zone lp b = edge-same (Entered zone lp) (Left zone lp) b
+loop_edge-same Operates zone lp b = begins-same (Operate zone lp) b
+
+pub loop_edges-same : (fact : LoopFact) (zone mask : ℕ) → loop_edges fact zone mask mask ≡ []
 unfolding loop_edges
-loop_edges-same zone mask = concat-none 6 _ (λ lp. edge-same (Entered zone lp) (Left zone lp) (has_bit lp mask))
+loop_edges-same fact zone mask = concat-none 6 _ (λ lp. loop_edge-same fact zone lp (has_bit lp mask))
 
-pub loop_beginnings-same : (zone mask : ℕ) → loop_beginnings zone mask mask ≡ []
-unfolding loop_beginnings
-loop_beginnings-same zone mask = concat-none 6 _ (λ lp. begins-same (Operate zone lp) (has_bit lp mask))
-
-zone_edges-same : (masks : List ℕ) → zone_edges masks masks ≡ []
+zone_edges-same : (fact : LoopFact) (masks : List ℕ) → zone_edges fact masks masks ≡ []
 unfolding zone_edges
-zone_edges-same masks = concat-none 5 _ (λ place. loop_edges-same (place + 1) (slice_index masks place))
-
-zone_beginnings-same : (masks : List ℕ) → zone_beginnings masks masks ≡ []
-unfolding zone_beginnings
-zone_beginnings-same masks = concat-none 5 _ (λ place. loop_beginnings-same (place + 1) (slice_index masks place))
+zone_edges-same fact masks = concat-none 5 _ (λ place. loop_edges-same fact (place + 1) (slice_index masks place))
 
 pub changes-same : (facts : Facts) → changes facts facts ≡ []
 changes-same facts =
@@ -153,8 +141,8 @@ changes-same facts =
       edge-same Ready Lost facts.ready,
       edge-same SwingOn SwingOff facts.swing,
       edge-same FuseOn FuseOff facts.fuse,
-      zone_edges-same facts.inside,
-      zone_beginnings-same facts.operate,
+      zone_edges-same Inside facts.inside,
+      zone_edges-same Operates facts.operate,
       edge-same Trip Reset facts.trip,
     ) refl
 
@@ -201,4 +189,4 @@ time-printable common (Some number) rated = nanos-below common.rate (number % co
 pub shown_changes-same : (before now : Shown) (trip : TripState) → trip.rose ≡ false → trip.fell ≡ false → before ≡ now → shown_changes before now trip ≡ []
 shown_changes-same before now trip rose fell same =
     ap (λ (b : Shown). shown_changes b now trip) same
-    ∙ rw (edge-same Ready Lost now.ready, edge-same SwingOn SwingOff now.swing, edge-same FuseOn FuseOff now.fuse, zone_edges-same now.inside, zone_beginnings-same now.operate, rose, fell) refl
+    ∙ rw (edge-same Ready Lost now.ready, edge-same SwingOn SwingOff now.swing, edge-same FuseOn FuseOff now.fuse, zone_edges-same Inside now.inside, zone_edges-same Operates now.operate, rose, fell) refl

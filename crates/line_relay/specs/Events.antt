@@ -8,6 +8,8 @@ use Rattle.event_record.specs.declared.event.Event.{Event}
 use Rattle.event_record.specs.declared.event.Event.TheVariants.{Line}
 use Rattle.line_relay.specs.declared.front.Outcome.{Outcome}
 use Rattle.line_relay.specs.declared.front.Outcome.TheVariants as outcomes
+use Rattle.line_relay.specs.declared.events.LoopFact.{LoopFact}
+use Rattle.line_relay.specs.declared.events.LoopFact.TheVariants.{Inside, Operates}
 use Rattle.loop_impedance.specs.Masks.{has_bit}
 use Rattle.line_relay.specs.Facts.{Facts}
 
@@ -40,19 +42,18 @@ unfoldable pub concat_below : {X : Type 0} → ℕ → (ℕ → List X) → List
 concat_below zero f = []
 concat_below (suc n) f = concat_below n f ++ f n
 
--- Of a zone's loops, in their order; a zone is told by its number, from 1.
-unfoldable pub loop_edges : ℕ → ℕ → ℕ → List What
-loop_edges zone before now = concat_below 6 (λ lp. edge (Entered zone lp) (Left zone lp) (has_bit lp before) (has_bit lp now))
+-- a fact of a loop in a zone of this number: inside is told as it begins and as it ends, operating as it begins
+abbrev pub loop_edge : LoopFact → ℕ → ℕ → Bool → Bool → List What
+loop_edge Inside zone lp before now = edge (Entered zone lp) (Left zone lp) before now
+loop_edge Operates zone lp before now = begins (Operate zone lp) before now
 
-unfoldable pub loop_beginnings : ℕ → ℕ → ℕ → List What
-loop_beginnings zone before now = concat_below 6 (λ lp. begins (Operate zone lp) (has_bit lp before) (has_bit lp now))
+-- of a zone's loops, in their order
+unfoldable pub loop_edges : LoopFact → ℕ → ℕ → ℕ → List What
+loop_edges fact zone before now = concat_below 6 (λ lp. loop_edge fact zone lp (has_bit lp before) (has_bit lp now))
 
--- of the five zones, in their order
-unfoldable pub zone_edges : List ℕ → List ℕ → List What
-zone_edges before now = concat_below 5 (λ place. loop_edges (place + 1) (slice_index before place) (slice_index now place))
-
-unfoldable pub zone_beginnings : List ℕ → List ℕ → List What
-zone_beginnings before now = concat_below 5 (λ place. loop_beginnings (place + 1) (slice_index before place) (slice_index now place))
+-- of the five zones, in their order, numbered from 1
+unfoldable pub zone_edges : LoopFact → List ℕ → List ℕ → List What
+zone_edges fact before now = concat_below 5 (λ place. loop_edges fact (place + 1) (slice_index before place) (slice_index now place))
 
 -- what is told where the facts were one and are the other
 abbrev pub changes : Facts → Facts → List What
@@ -60,8 +61,8 @@ changes before now =
     edge Ready Lost before.ready now.ready
     ++ edge SwingOn SwingOff before.swing now.swing
     ++ edge FuseOn FuseOff before.fuse now.fuse
-    ++ zone_edges before.inside now.inside
-    ++ zone_beginnings before.operate now.operate
+    ++ zone_edges Inside before.inside now.inside
+    ++ zone_edges Operates before.operate now.operate
     ++ edge Trip Reset before.trip now.trip
 
 -- each as an event at this moment

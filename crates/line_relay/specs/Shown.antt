@@ -5,7 +5,8 @@ use Rattle.event_record.specs.declared.event.What.{What}
 use Rattle.event_record.specs.declared.event.What.TheVariants.{Ready, Lost, SwingOn, SwingOff, FuseOn, FuseOff, Trip, Reset}
 use Rattle.line_relay.specs.declared.shown.Shown.{Shown}
 use Rattle.line_relay.specs.Facts.{Facts}
-use Rattle.line_relay.specs.Events.{edge, zone_edges, zone_beginnings}
+use Rattle.line_relay.specs.declared.events.LoopFact.TheVariants.{Inside, Operates}
+use Rattle.line_relay.specs.Events.{edge, zone_edges}
 
 -- with the trip
 abbrev pub facts_shown : Shown → Bool → Facts
@@ -28,8 +29,8 @@ shown_changes before now trip =
     edge Ready Lost before.ready now.ready
     ++ edge SwingOn SwingOff before.swing now.swing
     ++ edge FuseOn FuseOff before.fuse now.fuse
-    ++ zone_edges before.inside now.inside
-    ++ zone_beginnings before.operate now.operate
+    ++ zone_edges Inside before.inside now.inside
+    ++ zone_edges Operates before.operate now.operate
     ++ trip_edge trip
 
 -- nothing holds before the first sample

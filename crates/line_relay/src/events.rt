@@ -3,7 +3,7 @@ ghost use Rattle.std.specs.Prelude.{ℕ, ◌≡◌, ◌≤◌, ◌<◌, ◌+◌,
 ghost use Rattle.std.specs.Option.{option_map};
 ghost use Rattle.arrayvec.specs.ArrayVec.{array_vec_len};
 ghost use Rattle.event_record.specs.Time.{time_of};
-ghost use Rattle.line_relay.specs.Events.{arrival, edge, begins, told, loop_edges, loop_beginnings, zone_edges, zone_beginnings};
+ghost use Rattle.line_relay.specs.Events.{arrival, edge, begins, told, loop_edges, zone_edges};
 ghost use Rattle.line_relay.specs.Shown.{trip_edge, shown_changes};
 ghost use Rattle.loop_impedance.specs.Masks.{has_bit};
 
@@ -15,6 +15,15 @@ use event_record::{At, Event, What, at_of};
 use relay_settings::Common;
 use sample_stream::Taken;
 use trip_logic::TripState;
+
+/// A fact of a loop in a zone.
+#[derive(Clone, Copy)]
+pub enum LoopFact {
+    /// The loop is inside the zone: told as it goes in and as it goes out.
+    Inside,
+    /// The zone operates in the loop: told as that begins.
+    Operates,
+}
 
 /// The moment of the last taken sample.
 fn moment(common: &Common, last: Option<u64>) -> Option<At>
@@ -127,8 +136,22 @@ fn push_changes(
         before.fuse,
         now.fuse,
     );
-    push_zone_edges(events, common, last, &before.inside, &now.inside);
-    push_zone_beginnings(events, common, last, &before.operate, &now.operate);
+    push_zone_edges(
+        events,
+        common,
+        last,
+        LoopFact::Inside,
+        &before.inside,
+        &now.inside,
+    );
+    push_zone_edges(
+        events,
+        common,
+        last,
+        LoopFact::Operates,
+        &before.operate,
+        &now.operate,
+    );
     push_trip(events, common, last, trip);
 }
 
@@ -152,94 +175,56 @@ fn push_trip(events: &mut ArrayVec<Event, 96>, common: &Common, last: Option<u64
     }
 }
 
-/// Tells which loops of which zones go in and out.
+/// Tells in which loops of which zones the fact isn't as it was.
 fn push_zone_edges(
     events: &mut ArrayVec<Event, 96>,
     common: &Common,
     last: Option<u64>,
+    fact: LoopFact,
     before: &[u8; 5],
     now: &[u8; 5],
 )
     requires rate { 1 < common.now.rate }
     requires room { array_vec_len events.old + 30 ≤ 96 }
-    ensures events { events.new.items ≡ events.old.items ++ told (option_map (time_of common.now) last) (zone_edges before.now now.now) }
+    ensures events { events.new.items ≡ events.old.items ++ told (option_map (time_of common.now) last) (zone_edges fact before.now now.now) }
     ensures few { array_vec_len events.new ≤ array_vec_len events.old + 30 }
 {
     for place in 0..5 {
         let (was, is) = (before[place], now[place]);
         if was != is {
-            push_loop_edges(events, common, last, place as u8 + 1, was, is);
+            push_loop_edges(events, common, last, fact, place as u8 + 1, was, is);
         }
     }
 }
 
-/// Tells which loops of a zone go in and out.
+/// Tells in which loops of a zone the fact isn't as it was.
 fn push_loop_edges(
     events: &mut ArrayVec<Event, 96>,
     common: &Common,
     last: Option<u64>,
+    fact: LoopFact,
     zone: u8,
     before: u8,
     now: u8,
 )
     requires rate { 1 < common.now.rate }
     requires room { array_vec_len events.old + 6 ≤ 96 }
-    ensures events { events.new.items ≡ events.old.items ++ told (option_map (time_of common.now) last) (loop_edges zone before now) }
+    ensures events { events.new.items ≡ events.old.items ++ told (option_map (time_of common.now) last) (loop_edges fact zone before now) }
     ensures few { array_vec_len events.new ≤ array_vec_len events.old + 6 }
 {
-    for lp in 0..6 {
-        let (was, is) = (has_bit(before, lp), has_bit(now, lp));
-        let entered = What::Entered { zone, lp: lp as u8 };
-        let left = What::Left { zone, lp: lp as u8 };
-        push_edge(events, common, last, entered, left, was, is);
-    }
-}
-
-/// Tells in which loops which zones begin to operate.
-fn push_zone_beginnings(
-    events: &mut ArrayVec<Event, 96>,
-    common: &Common,
-    last: Option<u64>,
-    before: &[u8; 5],
-    now: &[u8; 5],
-)
-    requires rate { 1 < common.now.rate }
-    requires room { array_vec_len events.old + 30 ≤ 96 }
-    ensures events { events.new.items ≡ events.old.items ++ told (option_map (time_of common.now) last) (zone_beginnings before.now now.now) }
-    ensures few { array_vec_len events.new ≤ array_vec_len events.old + 30 }
-{
-    for place in 0..5 {
-        let (was, is) = (before[place], now[place]);
-        if was != is {
-            push_loop_beginnings(events, common, last, place as u8 + 1, was, is);
+    for place in 0..6 {
+        let (was, is) = (has_bit(before, place), has_bit(now, place));
+        let lp = place as u8;
+        match fact {
+            LoopFact::Inside => {
+                let entered = What::Entered { zone, lp };
+                let left = What::Left { zone, lp };
+                push_edge(events, common, last, entered, left, was, is);
+            }
+            LoopFact::Operates => {
+                push_beginning(events, common, last, What::Operate { zone, lp }, was, is);
+            }
         }
-    }
-}
-
-/// Tells in which loops a zone begins to operate.
-fn push_loop_beginnings(
-    events: &mut ArrayVec<Event, 96>,
-    common: &Common,
-    last: Option<u64>,
-    zone: u8,
-    before: u8,
-    now: u8,
-)
-    requires rate { 1 < common.now.rate }
-    requires room { array_vec_len events.old + 6 ≤ 96 }
-    ensures events { events.new.items ≡ events.old.items ++ told (option_map (time_of common.now) last) (loop_beginnings zone before now) }
-    ensures few { array_vec_len events.new ≤ array_vec_len events.old + 6 }
-{
-    for lp in 0..6 {
-        let (was, is) = (has_bit(before, lp), has_bit(now, lp));
-        push_beginning(
-            events,
-            common,
-            last,
-            What::Operate { zone, lp: lp as u8 },
-            was,
-            is,
-        );
     }
 }
 

@@ -10,7 +10,7 @@ use Rattle.line_relay.proofs.events.push_zone_edges.Goals.{then-was-is, else-was
 
 pub loop-place-init : goal.loop-place-init
 loop-place-init c = record {
-  told = told_start (option_map (time_of c.args.common.now) c.args.last) (λ place. loop_edges (place + 1) (slice_index c.args.before.now place) (slice_index c.args.now.now place)) c.args.events.now.items;
+  told = told_start (option_map (time_of c.args.common.now) c.args.last) (λ place. loop_edges c.args.fact (place + 1) (slice_index c.args.before.now place) (slice_index c.args.now.now place)) c.args.events.now.items;
   few = omega arith;
 }
 
@@ -23,17 +23,17 @@ loop-place-preserved c =
       | then-was-is w ↦ record {
         told =
             ap (λ (v : ArrayVec Event). v.items) w.events-is
-            ∙ told_next (option_map (time_of c.args.common.now) c.args.last) place (λ place. loop_edges (place + 1) (slice_index c.args.before.now place) (slice_index c.args.now.now place))
-            c.args.events.now.items c.loop-place.events.items w.push_loop_edges.new.events.items (loop_edges (place + 1) was is)
+            ∙ told_next (option_map (time_of c.args.common.now) c.args.last) place (λ place. loop_edges c.args.fact (place + 1) (slice_index c.args.before.now place) (slice_index c.args.now.now place))
+            c.args.events.now.items c.loop-place.events.items w.push_loop_edges.new.events.items (loop_edges c.args.fact (place + 1) was is)
             c.loop-place.invariant.told w.push_loop_edges.ensures.events refl;
         few = omega (arith, ap (λ (v : ArrayVec Event). array_vec_len v) w.events-is, w.push_loop_edges.ensures.few, c.loop-place.invariant.few);
       }
       | else-was-is w ↦ record {
         told =
             ap (λ (v : ArrayVec Event). v.items) w.events-is
-            ∙ told_same (option_map (time_of c.args.common.now) c.args.last) place (λ place. loop_edges (place + 1) (slice_index c.args.before.now place) (slice_index c.args.now.now place))
+            ∙ told_same (option_map (time_of c.args.common.now) c.args.last) place (λ place. loop_edges c.args.fact (place + 1) (slice_index c.args.before.now place) (slice_index c.args.now.now place))
             c.args.events.now.items c.loop-place.events.items c.loop-place.invariant.told
-            (sym (ap (λ mask. loop_edges (place + 1) mask is) w.if-was-is.false ∙ loop_edges-same (place + 1) is));
+            (sym (ap (λ mask. loop_edges c.args.fact (place + 1) mask is) w.if-was-is.false ∙ loop_edges-same c.args.fact (place + 1) is));
         few = omega (arith, ap (λ (v : ArrayVec Event). array_vec_len v) w.events-is, c.loop-place.invariant.few);
       }
     ]
@@ -42,5 +42,5 @@ pub returns-clause-events : goal.returns-clause-events
 unfolding zone_edges
 returns-clause-events c =
     let end : c.loop-place.place ≡ 5 = omega arith in
-    told_end (option_map (time_of c.args.common.now) c.args.last) c.loop-place.place 5 (λ place. loop_edges (place + 1) (slice_index c.args.before.now place) (slice_index c.args.now.now place))
+    told_end (option_map (time_of c.args.common.now) c.args.last) c.loop-place.place 5 (λ place. loop_edges c.args.fact (place + 1) (slice_index c.args.before.now place) (slice_index c.args.now.now place))
     c.args.events.now.items c.loop-place.events.items c.loop-place.invariant.told end

@@ -7,6 +7,6 @@ use Rattle.line_relay.proofs.events.push_zone_edges.Given as goal
 
 abbrev pub invariant-loop-place : goal.invariant-loop-place
 invariant-loop-place l = record {
-  told : l.events.items ≡ l.fn.events.items ++ told (option_map (time_of l.common) l.last) (concat_below l.place (λ place. loop_edges (place + 1) (slice_index l.before place) (slice_index l.now place)));
+  told : l.events.items ≡ l.fn.events.items ++ told (option_map (time_of l.common) l.last) (concat_below l.place (λ place. loop_edges l.fact (place + 1) (slice_index l.before place) (slice_index l.now place)));
   few : array_vec_len l.events ≤ array_vec_len l.fn.events + 6 * l.place;
 }
