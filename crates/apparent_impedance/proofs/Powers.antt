@@ -3,7 +3,7 @@ use Rattle.std.proofs.Common.{◌≡◌, ◌<◌, ◌^◌, ◌*ℤ◌, ◌+ℤ�
 use Rattle.std.specs.Int.{w128}
 use Rattle.relay_num.specs.declared.Cx.{Cx}
 use Rattle.relay_num.specs.Numbers.{product, difference, conjugate, opposite}
-use Rattle.relay_num.proofs.Signed.{signed, size-difference}
+use Rattle.relay_num.proofs.Signed.{signed}
 use Rattle.relay_num.proofs.Ring.{mul_comm, mul-neg, mul-add, mul-sub, add-mul, sub-mul, mul_assoc}
 use Rattle.relay_num.proofs.Wide.{held, fits_128, same_parts}
 
@@ -101,18 +101,6 @@ power_turned u i = same_parts
     (rw (mul-neg u.re (neg_ℤ i.im), mul-neg u.im i.re) (minus_more (u.re *ℤ neg_ℤ i.im) (u.im *ℤ i.re)))
 
 -- ---- as the code forms them in 128 bits
-
--- a difference
-pub record Less (a b : ℤ) : Type 0 where
-  pub fits : FitsSigned w128 (held a -ℤ held b)
-  pub is : held (held a -ℤ held b) ≡ a -ℤ b
-
-pub less : (a b : ℤ) → unsigned_abs a < 2 ^ 125 → unsigned_abs b < 2 ^ 125 → Less a b
-less a b h k =
-    let fa : FitsSigned w128 a = fits_128 a (2 ^ 125) h (lit≤ tt) in
-    let fb : FitsSigned w128 b = fits_128 b (2 ^ 125) k (lit≤ tt) in
-    let f : FitsSigned w128 (a -ℤ b) = fits_128 _ _ (size-difference a b (2 ^ 125) (2 ^ 125) h k) (lit≤ tt) in
-    record { fits = simp to_z-of_z f; is = simp to_z-of_z }
 
 -- an opposite
 pub negated : (a : ℤ) → unsigned_abs a < 2 ^ 126 → held (pos 0 -ℤ held a) ≡ neg_ℤ a

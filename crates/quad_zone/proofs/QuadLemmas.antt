@@ -65,9 +65,12 @@ minus_product k s = ap neg_ℤ (mul_comm k s) ∙ sym (mul-neg s k) ∙ mul_comm
 pub minus_thousand : (k s : ℤ) → neg_ℤ (pos 1000 *ℤ k *ℤ s) ≡ neg_ℤ (pos 1000) *ℤ k *ℤ s
 minus_thousand k s = minus_product (pos 1000 *ℤ k) s ∙ ap (λ t. t *ℤ s) (minus_product (pos 1000) k)
 
+-- a thousand times x, and to it or from it k times y, as the code forms them in 128 bits
 pub record Tilted (x k y : ℤ) : Type 0 where
-  pub fits : FitsSigned w128 (held (pos 1000 *ℤ held x) +ℤ held (held k *ℤ held y))
-  pub is : held (held (pos 1000 *ℤ held x) +ℤ held (held k *ℤ held y)) ≡ pos 1000 *ℤ x +ℤ k *ℤ y
+  pub sum_fits : FitsSigned w128 (held (pos 1000 *ℤ held x) +ℤ held (held k *ℤ held y))
+  pub sum_is : held (held (pos 1000 *ℤ held x) +ℤ held (held k *ℤ held y)) ≡ pos 1000 *ℤ x +ℤ k *ℤ y
+  pub difference_fits : FitsSigned w128 (held (pos 1000 *ℤ held x) -ℤ held (held k *ℤ held y))
+  pub difference_is : held (held (pos 1000 *ℤ held x) -ℤ held (held k *ℤ held y)) ≡ pos 1000 *ℤ x -ℤ k *ℤ y
 
 pub tilted : (x k y : ℤ) → unsigned_abs x < 2 ^ 110 → unsigned_abs k ≤ 1000 → unsigned_abs y < 2 ^ 110 → Tilted x k y
 tilted x k y a b c =
@@ -78,24 +81,14 @@ tilted x k y a b c =
     let fy : FitsSigned w128 y = fits_128 y (2 ^ 110) c (lit≤ tt) in
     let fl : FitsSigned w128 (pos 1000 *ℤ x) = fits_128 _ _ left (lit≤ tt) in
     let fr : FitsSigned w128 (k *ℤ y) = fits_128 _ _ right (lit≤ tt) in
-    let f : FitsSigned w128 (pos 1000 *ℤ x +ℤ k *ℤ y) = fits_128 _ _ (size-sum (pos 1000 *ℤ x) (k *ℤ y) _ _ left right) (lit≤ tt) in
-    record { fits = simp to_z-of_z f; is = simp to_z-of_z }
-
-pub record Leaned (x k y : ℤ) : Type 0 where
-  pub fits : FitsSigned w128 (held (pos 1000 *ℤ held x) -ℤ held (held k *ℤ held y))
-  pub is : held (held (pos 1000 *ℤ held x) -ℤ held (held k *ℤ held y)) ≡ pos 1000 *ℤ x -ℤ k *ℤ y
-
-pub leaned : (x k y : ℤ) → unsigned_abs x < 2 ^ 110 → unsigned_abs k ≤ 1000 → unsigned_abs y < 2 ^ 110 → Leaned x k y
-leaned x k y a b c =
-    let left = size-product (pos 1000) x 1001 (2 ^ 110) (omega arith) a in
-    let right = size-product k y 1001 (2 ^ 110) (omega arith) c in
-    let fx : FitsSigned w128 x = fits_128 x (2 ^ 110) a (lit≤ tt) in
-    let fk : FitsSigned w128 k = fits_128 k (2 ^ 20) (omega arith) (lit≤ tt) in
-    let fy : FitsSigned w128 y = fits_128 y (2 ^ 110) c (lit≤ tt) in
-    let fl : FitsSigned w128 (pos 1000 *ℤ x) = fits_128 _ _ left (lit≤ tt) in
-    let fr : FitsSigned w128 (k *ℤ y) = fits_128 _ _ right (lit≤ tt) in
-    let f : FitsSigned w128 (pos 1000 *ℤ x -ℤ k *ℤ y) = fits_128 _ _ (size-difference (pos 1000 *ℤ x) (k *ℤ y) _ _ left right) (lit≤ tt) in
-    record { fits = simp to_z-of_z f; is = simp to_z-of_z }
+    let sum : FitsSigned w128 (pos 1000 *ℤ x +ℤ k *ℤ y) = fits_128 _ _ (size-sum (pos 1000 *ℤ x) (k *ℤ y) _ _ left right) (lit≤ tt) in
+    let difference : FitsSigned w128 (pos 1000 *ℤ x -ℤ k *ℤ y) = fits_128 _ _ (size-difference (pos 1000 *ℤ x) (k *ℤ y) _ _ left right) (lit≤ tt) in
+    record {
+      sum_fits = simp to_z-of_z sum;
+      sum_is = simp to_z-of_z;
+      difference_fits = simp to_z-of_z difference;
+      difference_is = simp to_z-of_z;
+    }
 
 -- a size is at most m exactly where the number is from -m to m
 within_is : (z : ℤ) (m : ℕ) → leb (unsigned_abs z) m ≡ (int_le (neg_ℤ (pos m)) z && int_le z (pos m))
