@@ -8,4 +8,3 @@ pub mod GuardTexts
 pub mod TripEvents
 pub mod KeptWatch
 pub mod KeptGuard
-pub mod KeptGuards

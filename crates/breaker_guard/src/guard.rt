@@ -9,6 +9,7 @@ use crate::waits::{GuardTimes, waits_of};
 use crate::watch::Watch;
 use arrayvec::ArrayVec;
 use event_record::at_of;
+use line_bank::{LineBank, LineElement};
 use line_relay::{Burst, Front, Line};
 use relay_num::{Cx, NoMemory, Steps, copy_of};
 use relay_settings::{Common, LineSettings};
@@ -33,37 +34,46 @@ pub struct Guard {
     ghost modest: { open_i ≤ 2 ^ 30 },
 }
 
-impl Guard {
-    ghost use Rattle.std.specs.Prelude.{ℕ, ◌≡◌, ◌<◌, ◌≤◌, ◌^◌, ◌+◌, IfOk, None, List, [], ◌∷◌, Option};
-    ghost use Rattle.std.specs.List.{All};
-    ghost use Rattle.std.specs.Option.{ForSome, option_map, option_map_or};
-    ghost use Rattle.std.specs.Str.{bytes_eq};
-    ghost use Rattle.relay_num.specs.Numbers.{IsBelow};
-    ghost use Rattle.relay_settings.specs.declared.types.Common.{Common};
-    ghost use Rattle.relay_settings.specs.Settings.{PlainLine, plain_line};
-    ghost use Rattle.relay_settings.specs.Ranges.{IsCommon, IsLine};
-    ghost use Rattle.sv_frame.specs.Asdu.{PlainAsdu, plain_asdu};
-    ghost use Rattle.event_record.specs.Time.{time_of};
-    ghost use Rattle.breaker_guard.specs.declared.waits.GuardTimes.{GuardTimes};
+/// The breaker guards of all lines, each after the line's own sample sets so far.
+pub type Guards = LineBank<Guard>;
+
+impl LineElement for Guard {
+    ghost use Rattle.std.specs.Prelude.{List};
+    ghost use Rattle.std.specs.Option.{ForSome};
+    ghost use Rattle.line_bank.specs.LastNumbers.{larger};
+    ghost use Rattle.breaker_guard.specs.declared.event.GuardEvent.{GuardEvent};
     ghost use Rattle.breaker_guard.specs.Guarding.{listed, AreTimes};
     ghost use Rattle.breaker_guard.specs.GuardEvents.{guard_events};
     ghost use Rattle.breaker_guard.specs.GuardTexts.{IsPrintableGuard};
     ghost use Rattle.breaker_guard.specs.KeptGuard.{StandsFor, line_last, front_last};
 
-    /// A guard that has heard nothing. `NoMemory` comes only where the allocator has no room for cycles of samples
-    /// and of voltages; nothing is made then.
-    pub fn new(
+    type Asked = GuardTimes;
+
+    type Told = Option<GuardEvent>;
+
+    ghost IsAsked = { AreTimes };
+
+    ghost Said = { List GuardEvent };
+
+    // One event, or none exactly where the definition has none.
+    ghost said = { listed };
+
+    ghost IsPrintable = { λ told. ForSome told IsPrintableGuard };
+
+    ghost stands = { λ common times line asdus guard. StandsFor common line times asdus guard };
+
+    ghost tells = { λ common times line asdus. guard_events common line times asdus };
+
+    ghost last = { λ guard. larger (line_last guard) (front_last guard) };
+
+    ghost most_steps = { 35 };
+
+    fn new(
         alloc: Global,
         common: &Common,
         s: &LineSettings,
         times: GuardTimes,
-    ) -> Result<Guard, NoMemory>
-        requires common { IsCommon common.now }
-        requires settings { IsLine s.now }
-        requires times { AreTimes times }
-        ensures stands { IfOk result (λ guard. StandsFor common.now (plain_line s.now) times [] guard) }
-        ensures none { IfOk result (λ guard. (line_last guard ≡ None) × (front_last guard ≡ None)) }
-    {
+    ) -> Result<Guard, NoMemory> {
         let line = Line::new(alloc, common, s)?;
         let front = Front::new(alloc, common, s)?;
         Ok(Guard {
@@ -77,27 +87,11 @@ impl Guard {
         })
     }
 
-    /// Whether a sample set is the line's own, which its svID says.
-    pub fn owns(&self, a: &Asdu<'_>) -> bool
-        ensures { result ≡ bytes_eq self.now.sv_id.items a.now.sv_id.now }
-    {
+    fn owns(&self, a: &Asdu<'_>) -> bool {
         self.sv_id.as_slice() == a.sv_id
     }
 
-    /// Takes the next sample set of the line, and answers what it tells. The last numbers have to be below 2^60.
-    pub fn take<L: Ledger>(&mut self, a: &Asdu<'_>, steps: &mut Steps<L>) -> Option<GuardEvent>
-        requires line { ForSome (line_last self.old) (λ last. last < 2 ^ 60) }
-        requires front { ForSome (front_last self.old) (λ last. last < 2 ^ 60) }
-        ensures line_grows { (most : ℕ) → ForSome (line_last self.old) (λ last. last ≤ most) → ForSome (line_last self.new) (λ last. last ≤ most + 4800) }
-        ensures front_grows { (most : ℕ) → ForSome (front_last self.old) (λ last. last ≤ most) → ForSome (front_last self.new) (λ last. last ≤ most + 4800) }
-        // By the sample sets before: for each list of them that the guard stands for.
-        ensures told { (common : Common) (settings : PlainLine) (times : GuardTimes) (asdus : List PlainAsdu) →
-            StandsFor common settings times asdus self.old → listed result ≡ guard_events common settings times (plain_asdu a.now ∷ asdus) }
-        ensures after { (common : Common) (settings : PlainLine) (times : GuardTimes) (asdus : List PlainAsdu) →
-            StandsFor common settings times asdus self.old → StandsFor common settings times (plain_asdu a.now ∷ asdus) self.new }
-        ensures printable { ForSome result IsPrintableGuard }
-        ensures cost { steps.new ≤ steps.old + 35 }
-    {
+    fn take<L: Ledger>(&mut self, a: &Asdu<'_>, steps: &mut Steps<L>) -> Option<GuardEvent> {
         self.line.take_into(a, &mut self.burst, steps);
         let step = self.front.take(a, steps);
         let Some(number) = step.outcome.number() else {

@@ -19,7 +19,6 @@
 //! taken only in `Guards::new`.
 #![tactic(auto)]
 
-mod bank;
 mod current;
 mod event;
 mod guard;
@@ -31,7 +30,8 @@ mod trip;
 mod waits;
 mod watch;
 
-pub use bank::Guards;
 pub use event::{GuardEvent, GuardWhat};
+pub use guard::Guards;
 pub use laws::show_one_line;
 pub use text::print_guard;
+pub use waits::GuardTimes;

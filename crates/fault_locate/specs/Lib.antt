@@ -10,4 +10,3 @@ pub mod KeptWaiting
 pub mod NextSample
 pub mod KeptLocator
 pub mod LocateLines
-pub mod KeptLocators

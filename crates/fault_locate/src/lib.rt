@@ -16,10 +16,9 @@
 //! `specs/LocateTexts` has the text of the log. The code keeps the phase currents of the last two cycles and the trip
 //! that waits, which `specs/KeptLookback` and `specs/KeptWaiting` say. Each line stands on a `Line` of `line_relay`
 //! for the events and on a `Front` for the samples and their phasors, by their public contracts alone; `line_bank` has
-//! the words for all lines together. Memory is taken only in `Locators::new`.
+//! the bank of all lines. Memory is taken only in `Locators::new`.
 #![tactic(auto)]
 
-mod bank;
 mod distance;
 mod located;
 mod locator;
@@ -31,6 +30,6 @@ mod text;
 mod trips;
 mod waiting;
 
-pub use bank::Locators;
 pub use located::Located;
+pub use locator::Locators;
 pub use text::print_located;

@@ -17,6 +17,7 @@ use crate::measure::measure;
 use crate::trips::has_trip;
 use crate::waiting::{Waiting, take_due, trip_of};
 use event_record::at_of;
+use line_bank::{LineBank, LineElement};
 use line_relay::{Burst, Front, Line};
 use relay_num::{Cx, NoMemory, Steps};
 use relay_settings::{Common, LineSettings};
@@ -41,32 +42,44 @@ pub struct Locator {
     ghost small: { ForSome waiting IsWaiting },
 }
 
-impl Locator {
-    ghost use Rattle.std.specs.Prelude.{ℕ, ◌≡◌, ◌<◌, ◌≤◌, ◌^◌, ◌+◌, IfOk, IfSome, None, List, [], ◌∷◌};
-    ghost use Rattle.std.specs.Option.{ForSome};
-    ghost use Rattle.std.specs.Str.{bytes_eq};
-    ghost use Rattle.relay_settings.specs.declared.types.Common.{Common};
-    ghost use Rattle.relay_settings.specs.Settings.{PlainLine, plain_line};
-    ghost use Rattle.relay_settings.specs.Ranges.{IsCommon, IsLine};
-    ghost use Rattle.sv_frame.specs.Asdu.{PlainAsdu, plain_asdu};
-    ghost use Rattle.fault_locate.specs.Locating.{located_at, located};
-    ghost use Rattle.fault_locate.specs.LocateTexts.{IsPrintableLocated};
-    ghost use Rattle.event_record.specs.Printable.{IsPrintable};
-    ghost use Rattle.relay_num.specs.Bounds.{phasor_bound};
-    ghost use Rattle.relay_num.specs.Numbers.{IsBelow};
-    ghost use Rattle.std.specs.List.{All};
-    ghost use Rattle.line_relay.specs.Samples.{Numbered};
-    ghost use Rattle.fault_locate.specs.NextSample.{IsNext};
-    ghost use Rattle.fault_locate.specs.KeptLocator.{StandsFor, HoldsFor, line_last, front_last};
+/// The fault locators of all lines, each after the line's own sample sets so far.
+pub type Locators = LineBank<Locator>;
 
-    /// A locator that has heard nothing. `NoMemory` comes only where the allocator has no room for cycles of samples,
-    /// of voltages and of currents; nothing is made then.
-    pub fn new(alloc: Global, common: &Common, s: &LineSettings) -> Result<Locator, NoMemory>
-        requires common { IsCommon common.now }
-        requires settings { IsLine s.now }
-        ensures stands { IfOk result (λ locator. StandsFor common.now (plain_line s.now) [] locator) }
-        ensures none { IfOk result (λ locator. (line_last locator ≡ None) × (front_last locator ≡ None)) }
-    {
+impl LineElement for Locator {
+    ghost use Rattle.std.specs.Prelude.{Option, ⊤};
+    ghost use Rattle.std.specs.Option.{ForSome};
+    ghost use Rattle.line_bank.specs.LastNumbers.{larger};
+    ghost use Rattle.fault_locate.specs.declared.located.Located.{Located};
+    ghost use Rattle.fault_locate.specs.Locating.{located};
+    ghost use Rattle.fault_locate.specs.LocateTexts.{IsPrintableLocated};
+    ghost use Rattle.fault_locate.specs.KeptLocator.{StandsFor, line_last, front_last};
+
+    type Asked = ();
+
+    type Told = Option<Located>;
+
+    ghost IsAsked = { λ _. ⊤ };
+
+    ghost Said = { Option Located };
+
+    ghost said = { λ told. told };
+
+    ghost IsPrintable = { λ told. ForSome told IsPrintableLocated };
+
+    ghost stands = { λ common _ line asdus locator. StandsFor common line asdus locator };
+
+    ghost tells = { λ common _ line asdus. located common line asdus };
+
+    ghost last = { λ locator. larger (line_last locator) (front_last locator) };
+
+    ghost most_steps = { 36 };
+
+    fn new(
+        alloc: Global,
+        common: &Common,
+        s: &LineSettings,
+        _asked: (),
+    ) -> Result<Locator, NoMemory> {
         let line = Line::new(alloc, common, s)?;
         let front = Front::new(alloc, common, s)?;
         let lookback = Lookback::new(alloc, common.n)?;
@@ -81,27 +94,11 @@ impl Locator {
         })
     }
 
-    /// Whether a sample set is the line's own, which its svID says.
-    pub fn owns(&self, a: &Asdu<'_>) -> bool
-        ensures { result ≡ bytes_eq self.now.settings.sv_id.items a.now.sv_id.now }
-    {
+    fn owns(&self, a: &Asdu<'_>) -> bool {
         self.settings.sv_id.as_slice() == a.sv_id
     }
 
-    /// Takes the next sample set of the line, and answers what it tells. The last numbers have to be below 2^60.
-    pub fn take<L: Ledger>(&mut self, a: &Asdu<'_>, steps: &mut Steps<L>) -> Option<Located>
-        requires line { ForSome (line_last self.old) (λ last. last < 2 ^ 60) }
-        requires front { ForSome (front_last self.old) (λ last. last < 2 ^ 60) }
-        ensures line_grows { (most : ℕ) → ForSome (line_last self.old) (λ last. last ≤ most) → ForSome (line_last self.new) (λ last. last ≤ most + 4800) }
-        ensures front_grows { (most : ℕ) → ForSome (front_last self.old) (λ last. last ≤ most) → ForSome (front_last self.new) (λ last. last ≤ most + 4800) }
-        // By the sample sets before: for each list of them that the locator stands for.
-        ensures told { (common : Common) (settings : PlainLine) (asdus : List PlainAsdu) → StandsFor common settings asdus self.old →
-            result ≡ located common settings (plain_asdu a.now ∷ asdus) }
-        ensures after { (common : Common) (settings : PlainLine) (asdus : List PlainAsdu) → StandsFor common settings asdus self.old →
-            StandsFor common settings (plain_asdu a.now ∷ asdus) self.new }
-        ensures printable { ForSome result IsPrintableLocated }
-        ensures cost { steps.new ≤ steps.old + 36 }
-    {
+    fn take<L: Ledger>(&mut self, a: &Asdu<'_>, steps: &mut Steps<L>) -> Option<Located> {
         let last = self.front.last();
         self.line.take_into(a, &mut self.burst, steps);
         let step = self.front.take(a, steps);
@@ -110,6 +107,21 @@ impl Locator {
         };
         self.note(number, follows(last, number), &step.phasors, steps)
     }
+}
+
+impl Locator {
+    ghost use Rattle.std.specs.Prelude.{◌≡◌, ◌<◌, ◌≤◌, ◌+◌, List, ◌∷◌};
+    ghost use Rattle.std.specs.Option.{ForSome};
+    ghost use Rattle.std.specs.List.{All};
+    ghost use Rattle.relay_num.specs.Bounds.{phasor_bound};
+    ghost use Rattle.relay_num.specs.Numbers.{IsBelow};
+    ghost use Rattle.relay_settings.specs.Settings.{plain_line};
+    ghost use Rattle.event_record.specs.Printable.{IsPrintable};
+    ghost use Rattle.line_relay.specs.Samples.{Numbered};
+    ghost use Rattle.fault_locate.specs.Locating.{located_at};
+    ghost use Rattle.fault_locate.specs.LocateTexts.{IsPrintableLocated};
+    ghost use Rattle.fault_locate.specs.NextSample.{IsNext};
+    ghost use Rattle.fault_locate.specs.KeptLocator.{HoldsFor};
 
     /// Takes a sample, whose phasors these are where it is ready, and whose events the burst has; it follows where its
     /// number is the next.

@@ -6,4 +6,3 @@ pub mod BackupLines
 pub mod BackupTexts
 pub mod KeptElement
 pub mod KeptBackup
-pub mod KeptBackups

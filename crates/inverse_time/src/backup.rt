@@ -17,6 +17,7 @@ use crate::event::{BackupEvent, push_changes};
 use crate::numbers::multiple;
 use arrayvec::ArrayVec;
 use event_record::{At, at_of};
+use line_bank::{LineBank, LineElement};
 use line_relay::Front;
 use relay_num::{Cx, NoMemory, Steps, copy_of};
 use relay_settings::{Common, LineSettings};
@@ -40,34 +41,44 @@ pub struct Backup {
     ghost set: { IsDial dial },
 }
 
-impl Backup {
-    ghost use Rattle.std.specs.Prelude.{ℕ, ◌≡◌, ◌<◌, ◌≤◌, ◌^◌, ◌+◌, IfOk, None, List, [], ◌∷◌};
+/// The inverse-time elements of all lines, each after the line's own sample sets so far.
+pub type Backups = LineBank<Backup>;
+
+impl LineElement for Backup {
+    ghost use Rattle.std.specs.Prelude.{List};
     ghost use Rattle.std.specs.List.{All};
-    ghost use Rattle.std.specs.Option.{ForSome};
-    ghost use Rattle.std.specs.Str.{bytes_eq};
-    ghost use Rattle.relay_settings.specs.declared.types.Common.{Common};
-    ghost use Rattle.relay_settings.specs.Settings.{PlainLine, plain_line};
-    ghost use Rattle.relay_settings.specs.Ranges.{IsCommon, IsLine};
-    ghost use Rattle.sv_frame.specs.Asdu.{PlainAsdu, plain_asdu};
-    ghost use Rattle.inverse_time.specs.declared.curve.Dial.{Dial};
+    ghost use Rattle.inverse_time.specs.declared.event.BackupEvent.{BackupEvent};
     ghost use Rattle.inverse_time.specs.InverseCurves.{IsDial};
     ghost use Rattle.inverse_time.specs.BackupEvents.{backup_events};
     ghost use Rattle.inverse_time.specs.BackupTexts.{IsPrintableEvent};
     ghost use Rattle.inverse_time.specs.KeptBackup.{StandsFor, last_of};
 
-    /// A line that has heard nothing. `NoMemory` comes only where the allocator has no room for a cycle of samples.
-    pub fn new(
+    type Asked = Dial;
+
+    type Told = ArrayVec<BackupEvent, 6>;
+
+    ghost IsAsked = { IsDial };
+
+    ghost Said = { List BackupEvent };
+
+    ghost said = { λ events. events.items };
+
+    ghost IsPrintable = { λ events. All IsPrintableEvent events.items };
+
+    ghost stands = { λ common dial line asdus backup. StandsFor common line dial asdus backup };
+
+    ghost tells = { λ common dial line asdus. backup_events common line dial asdus };
+
+    ghost last = { last_of };
+
+    ghost most_steps = { 1 };
+
+    fn new(
         alloc: Global,
         common: &Common,
         s: &LineSettings,
         dial: Dial,
-    ) -> Result<Backup, NoMemory>
-        requires common { IsCommon common.now }
-        requires settings { IsLine s.now }
-        requires dial { IsDial dial }
-        ensures stands { IfOk result (λ backup. StandsFor common.now (plain_line s.now) dial [] backup) }
-        ensures none { IfOk result (λ backup. last_of backup ≡ None) }
-    {
+    ) -> Result<Backup, NoMemory> {
         let front = Front::new(alloc, common, s)?;
         Ok(Backup {
             sv_id: copy_of(s.sv_id.as_slice()),
@@ -80,30 +91,11 @@ impl Backup {
         })
     }
 
-    /// Whether a sample set is the line's own, which its svID says.
-    pub fn owns(&self, a: &Asdu<'_>) -> bool
-        ensures { result ≡ bytes_eq self.now.sv_id.items a.now.sv_id.now }
-    {
+    fn owns(&self, a: &Asdu<'_>) -> bool {
         self.sv_id.as_slice() == a.sv_id
     }
 
-    /// Takes the next sample set of the line, and answers what it tells. The last number has to be below 2^60.
-    pub fn take<L: Ledger>(
-        &mut self,
-        a: &Asdu<'_>,
-        steps: &mut Steps<L>,
-    ) -> ArrayVec<BackupEvent, 6>
-        requires { ForSome (last_of self.old) (λ last. last < 2 ^ 60) }
-        ensures grows { (most : ℕ) → ForSome (last_of self.old) (λ last. last ≤ most) → ForSome (last_of self.new) (λ last. last ≤ most + 4800) }
-        // By the sample sets before: for each list of them that the line stands for.
-        ensures events { (common : Common) (settings : PlainLine) (dial : Dial) (asdus : List PlainAsdu) →
-            StandsFor common settings dial asdus self.old → result.items ≡ backup_events common settings dial (plain_asdu a.now ∷ asdus) }
-        ensures after { (common : Common) (settings : PlainLine) (dial : Dial) (asdus : List PlainAsdu) →
-            StandsFor common settings dial asdus self.old → StandsFor common settings dial (plain_asdu a.now ∷ asdus) self.new }
-        ensures printable { All IsPrintableEvent result.items }
-        ensures same_sv_id { self.new.sv_id ≡ self.old.sv_id }
-        ensures cost { steps.new ≤ steps.old + 1 }
-    {
+    fn take<L: Ledger>(&mut self, a: &Asdu<'_>, steps: &mut Steps<L>) -> ArrayVec<BackupEvent, 6> {
         let mut events = ArrayVec::new();
         let step = self.front.take(a, steps);
         let Some(number) = step.outcome.number() else {

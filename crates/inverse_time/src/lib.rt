@@ -19,15 +19,14 @@
 #![tactic(auto)]
 
 mod backup;
-mod bank;
 mod curve;
 mod element;
 mod event;
 mod numbers;
 mod text;
 
-pub use bank::Backups;
-pub use curve::Curve;
+pub use backup::Backups;
+pub use curve::{Curve, Dial};
 pub use event::{BackupEvent, BackupWhat};
 pub use numbers::multiple;
 pub use text::print_backup;

@@ -2,7 +2,7 @@
 use Rattle.std.proofs.Common.{◌≤◌, ◌≡◌, ◌≢◌, ℕ, zero, suc, ◌<◌, ◌+◌, Bool, true, false, refl, sym, ap, ◌∙◌, arith, List, [], ◌∷◌, ◌++◌, length, get_or, set, inl, inr, ◌*◌, subst, get_or-set_same, get_or-set_other, length-set, Some, None, map}
 use Rattle.std.specs.Prelude.{find, Option}
 use Rattle.std.specs.Option.{option_map, ForSome}
-use Rattle.std.specs.List.{All, AllPairs, IsDistinct}
+use Rattle.std.specs.List.{All, IsDistinct}
 use Rattle.std.specs.Str.{bytes_eq}
 use Rattle.std.proofs.lemmas.Bool.{cases_eq, cases_Bool, cases_order, cond-true, cond-false, false_from_ne_true}
 use Rattle.std.proofs.lemmas.List.{get_or_push, get_or_append_left, get_or_default, length-map}
@@ -13,7 +13,7 @@ use Rattle.relay_settings.specs.declared.types.LineSettings.{LineSettings}
 use Rattle.relay_settings.specs.Settings.{PlainLine, plain_line, plain_lines}
 use Rattle.sv_frame.specs.Asdu.{PlainAsdu}
 use Rattle.line_bank.specs.Owners.{owns, own, owner, HaveOwnIds, HaveOneOwner}
-use Rattle.line_bank.specs.Banks.{HaveHeard, AreSmall, TellsOf, told_by, told, IsTold}
+use Rattle.line_bank.specs.Banks.{HaveHeard, AreSmall, told_by, IsTold}
 
 -- ---- lists
 

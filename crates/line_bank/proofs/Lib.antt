@@ -1,1 +1,2 @@
 pub mod BankLaws
+pub mod LastNumberLaws

@@ -1,2 +1,4 @@
 pub mod Owners
 pub mod Banks
+pub mod KeptBank
+pub mod LastNumbers
