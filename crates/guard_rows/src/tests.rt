@@ -2,7 +2,7 @@
 ghost use Rattle.std.specs.Prelude.{◌≡◌, ◌<◌, ◌≤◌};
 ghost use Rattle.breaker_guard.specs.Guarding.{AreTimes, times_of};
 
-use breaker_guard::{Guards, print_guard};
+use breaker_guard::{GuardTimes, Guards, print_guard};
 use relay_num::{Steps, open_steps, wave};
 use settings_read::read_settings;
 use std::alloc::{AllocError, Global};
@@ -125,7 +125,12 @@ fn log_of<L: Ledger>(alloc: Global, row: &Row, blank: Blank) -> Result<Vec<u8>, 
     let settings = read_settings(alloc, SETTINGS.as_bytes())?;
     let (fail_ms, dead_ms, reclaim_ms, spans, _) = *row;
     let mut steps = open_steps::<L>(blank);
-    let mut guards = Guards::new(alloc, &settings, fail_ms, dead_ms, reclaim_ms)?;
+    let times = GuardTimes {
+        fail_ms,
+        dead_ms,
+        reclaim_ms,
+    };
+    let mut guards = Guards::new(alloc, &settings, times)?;
     let mut log = Vec::new(alloc);
     for span in spans {
         for number in span.0..span.1 {
@@ -283,7 +288,12 @@ fn sixteen_logs<L: Ledger>(alloc: Global, blank: Blank) -> Result<Vec<u8>, Fail>
     let text = sixteen_of(alloc)?;
     let settings = read_settings(alloc, text.as_bytes())?;
     let mut steps = open_steps::<L>(blank);
-    let mut guards = Guards::new(alloc, &settings, 150, 20, 1000)?;
+    let times = GuardTimes {
+        fail_ms: 150,
+        dead_ms: 20,
+        reclaim_ms: 1000,
+    };
+    let mut guards = Guards::new(alloc, &settings, times)?;
     let mut log = Vec::new(alloc);
     for number in 0..1500_u32 {
         let mut end: u32 = 280;

@@ -3,7 +3,7 @@ ghost use Rattle.std.specs.Prelude.{◌≡◌, ◌<◌, ◌≤◌};
 ghost use Rattle.inverse_time.specs.InverseCurves.{IsDial, dial_of};
 
 use drill::drill_text;
-use inverse_time::{Backups, Curve, multiple, print_backup};
+use inverse_time::{Backups, Curve, Dial, multiple, print_backup};
 use relay_num::{Cx, Steps, open_steps, wave};
 use settings_read::read_settings;
 use std::alloc::{AllocError, Global};
@@ -93,7 +93,8 @@ fn log_of<L: Ledger>(alloc: Global, row: &Row, blank: Blank) -> Result<Vec<u8>, 
     let settings = read_settings(alloc, one_line(alloc)?.as_bytes())?;
     let (curve, pickup, tms, spans, _) = *row;
     let mut steps = open_steps::<L>(blank);
-    let mut backups = Backups::new(alloc, &settings, curve, pickup, tms)?;
+    let dial = Dial { curve, pickup, tms };
+    let mut backups = Backups::new(alloc, &settings, dial)?;
     let mut log = Vec::new(alloc);
     for span in spans {
         for counter in span.0..span.1 {
@@ -234,7 +235,12 @@ fn log_at_4000<L: Ledger>(alloc: Global, curve: Curve, blank: Blank) -> Result<V
     let text = one_line(alloc)?.replacen(alloc, "rate = 4800", "rate = 4000", 1)?;
     let settings = read_settings(alloc, text.as_bytes())?;
     let mut steps = open_steps::<L>(blank);
-    let mut backups = Backups::new(alloc, &settings, curve, 1_000_000, 25)?;
+    let dial = Dial {
+        curve,
+        pickup: 1_000_000,
+        tms: 25,
+    };
+    let mut backups = Backups::new(alloc, &settings, dial)?;
     let mut log = Vec::new(alloc);
     for counter in 0..1200_u16 {
         let (_, sine) = wave(80, u32::from(counter) % 80);
@@ -319,7 +325,12 @@ fn sixteen_logs<L: Ledger>(alloc: Global, blank: Blank) -> Result<Vec<u8>, Fail>
     let text = sixteen_of(alloc)?;
     let settings = read_settings(alloc, text.as_bytes())?;
     let mut steps = open_steps::<L>(blank);
-    let mut backups = Backups::new(alloc, &settings, Curve::Very, 1_000_000, 25)?;
+    let dial = Dial {
+        curve: Curve::Very,
+        pickup: 1_000_000,
+        tms: 25,
+    };
+    let mut backups = Backups::new(alloc, &settings, dial)?;
     let mut log = Vec::new(alloc);
     for counter in 0..700_u16 {
         let (_, sine) = wave(96, u32::from(counter) % 96);

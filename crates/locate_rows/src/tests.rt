@@ -148,7 +148,7 @@ fn log_of<L: Ledger>(alloc: Global, row: &Row, blank: Blank) -> Result<Vec<u8>, 
     }
     let settings = read_settings(alloc, text.as_slice())?;
     let mut steps = open_steps::<L>(blank);
-    let mut locators = Locators::new(alloc, &settings)?;
+    let mut locators = Locators::new(alloc, &settings, ())?;
     let mut log = Vec::new(alloc);
     for span in spans {
         for counter in span.0..span.1 {

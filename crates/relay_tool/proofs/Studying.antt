@@ -9,19 +9,16 @@ use Rattle.relay_settings.specs.Settings.{PlainLine, PlainSettings, plain_line, 
 use Rattle.relay_settings.specs.declared.types.LineSettings.{LineSettings}
 use Rattle.relay_settings.specs.declared.types.Settings.{Settings}
 use Rattle.line_bank.specs.Owners.{owner}
-use Rattle.line_bank.specs.Banks.{TellsOf, told_by}
+use Rattle.line_bank.specs.Banks.{TellsOf, told_by, IsTold}
 use Rattle.inverse_time.specs.declared.curve.Dial.{Dial}
 use Rattle.inverse_time.specs.declared.event.BackupEvent.{BackupEvent}
 use Rattle.inverse_time.specs.BackupLines.{tells_by}
-use Rattle.inverse_time.specs.KeptBackups.{IsTold}
 use Rattle.fault_locate.specs.declared.located.Located.{Located}
 use Rattle.fault_locate.specs.LocateLines.{tells_by as locates_by}
-use Rattle.fault_locate.specs.KeptLocators.{IsTold as IsLocated}
 use Rattle.breaker_guard.specs.declared.waits.GuardTimes.{GuardTimes}
 use Rattle.breaker_guard.specs.declared.event.GuardEvent.{GuardEvent}
 use Rattle.breaker_guard.specs.Guarding.{listed}
 use Rattle.breaker_guard.specs.GuardLines.{tells_by as guards_by}
-use Rattle.breaker_guard.specs.KeptGuards.{IsTold as IsGuarded}
 use Rattle.relay_tool.specs.Words.{backup, locate, guard}
 use Rattle.relay_tool.specs.Output.{backup_item, backup_items, some_located, located_items, guard_item, guard_items, study_items}
 use Rattle.relay_tool.specs.Making.{Makes}
@@ -41,7 +38,7 @@ no-backup settings dial past a none = ap (λ o. backup_items (option_map (told_b
 
 -- the owner's events are what is written of it
 pub backup-made : (settings : PlainSettings) (dial : Dial) (past : List PlainAsdu) (place : ℕ) (name : List ℕ) (slice events : List BackupEvent) {x y : RoomState} {result : Result (Unit {0}) Failed} →
-    (told_is : IsTold settings dial past place events) → name ≡ told_is.line.name → slice ≡ events → Makes (map (backup_item name) slice) x y result → Makes (study_items (backup dial) settings past) x y result
+    (told_is : IsTold (tells_by settings dial) settings.lines past place events) → name ≡ told_is.line.name → slice ≡ events → Makes (map (backup_item name) slice) x y result → Makes (study_items (backup dial) settings past) x y result
 backup-made settings dial past place name slice events {x} {y} {result} told_is named is made =
     subst (λ (o : Option (TellsOf (List BackupEvent))). Makes (backup_items o) x y result) (sym told_is.is)
     (subst (λ (n : List ℕ). Makes (map (backup_item n) events) x y result) named (subst (λ (es : List BackupEvent). Makes (map (backup_item name) es) x y result) is made))
@@ -53,7 +50,7 @@ no-located settings past a none = ap (λ o. located_items (option_map (told_by (
 
 -- what the owner tells is what is written of it
 pub located-made : (settings : PlainSettings) (past : List PlainAsdu) (place : ℕ) (name : List ℕ) (said : Option Located) {x y : RoomState} {result : Result (Unit {0}) Failed} →
-    (told_is : IsLocated settings past place said) → name ≡ told_is.line.name → Makes (some_located name said) x y result → Makes (study_items locate settings past) x y result
+    (told_is : IsTold (locates_by settings) settings.lines past place said) → name ≡ told_is.line.name → Makes (some_located name said) x y result → Makes (study_items locate settings past) x y result
 located-made settings past place name said {x} {y} {result} told_is named made =
     subst (λ (o : Option (TellsOf (Option Located))). Makes (located_items o) x y result) (sym told_is.is)
     (subst (λ (n : List ℕ). Makes (some_located n said) x y result) named made)
@@ -65,7 +62,7 @@ no-guard settings times past a none = ap (λ o. guard_items (option_map (told_by
 
 -- what the owner tells is what is written of it
 pub guard-made : (settings : PlainSettings) (times : GuardTimes) (past : List PlainAsdu) (place : ℕ) (name : List ℕ) (said : Option GuardEvent) {x y : RoomState} {result : Result (Unit {0}) Failed} →
-    (told_is : IsGuarded settings times past place said) → name ≡ told_is.line.name → Makes (map (guard_item name) (listed said)) x y result → Makes (study_items (guard times) settings past) x y result
+    (told_is : IsTold (guards_by settings times) settings.lines past place (listed said)) → name ≡ told_is.line.name → Makes (map (guard_item name) (listed said)) x y result → Makes (study_items (guard times) settings past) x y result
 guard-made settings times past place name said {x} {y} {result} told_is named made =
     subst (λ (o : Option (TellsOf (List GuardEvent))). Makes (guard_items o) x y result) (sym told_is.is)
     (subst (λ (n : List ℕ). Makes (map (guard_item n) (listed said)) x y result) named made)

@@ -3,7 +3,7 @@ ghost use Rattle.std.specs.Prelude.{◌≡◌, ◌≤◌, length, map};
 ghost use Rattle.std.specs.List.{All};
 ghost use Rattle.room_io.specs.Room.{IsReadyOut};
 ghost use Rattle.room_io.specs.declared.room.Slot.TheVariants.{Log};
-ghost use Rattle.inverse_time.specs.KeptBackups.{lines_of};
+ghost use Rattle.line_bank.specs.KeptBank.{lines_of};
 ghost use Rattle.inverse_time.specs.BackupTexts.{IsPrintableEvent, backup_text};
 ghost use Rattle.relay_tool.specs.Output.{backup_item};
 ghost use Rattle.relay_tool.specs.Making.{Makes, Puts};
@@ -11,7 +11,7 @@ ghost use Rattle.relay_tool.specs.Making.{Makes, Puts};
 use crate::bank::Bank;
 use crate::put::{Failed, put};
 use arrayvec::ArrayVec;
-use inverse_time::{BackupEvent, Backups, Curve, print_backup};
+use inverse_time::{BackupEvent, Backups, Curve, Dial, print_backup};
 use relay_num::{NoMemory, Steps};
 use relay_settings::Settings;
 use room_io::{Room, Slot};
@@ -32,10 +32,10 @@ impl BackupBank {
     ghost use Rattle.relay_settings.specs.Settings.{plain_settings};
     ghost use Rattle.relay_settings.specs.Ranges.{InRange};
     ghost use Rattle.inverse_time.specs.InverseCurves.{IsDial, dial_of};
-    ghost use Rattle.inverse_time.specs.KeptBackups.{heard_of};
+    ghost use Rattle.line_bank.specs.KeptBank.{heard_of};
     ghost use Rattle.relay_tool.specs.Words.{backup};
     ghost use Rattle.relay_tool.specs.Output.{study_items};
-    ghost use Rattle.relay_tool.specs.Banks.{backups_of, TellsBackups};
+    ghost use Rattle.relay_tool.specs.Banks.{TellsBackups};
 
     /// The elements of the lines of these settings, which have heard nothing, on one curve, with one pickup in mA and
     /// one time multiplier setting in thousandths. `NoMemory`: they found no room.
@@ -49,20 +49,21 @@ impl BackupBank {
         requires settings { InRange settings }
         requires dial { IsDial (dial_of curve pickup tms) }
         ensures stands { IfOk result (λ bank. TellsBackups bank (study_items (backup (dial_of curve pickup tms)) (plain_settings settings)) []) }
-        ensures heard { IfOk result (λ bank. heard_of (backups_of bank) ≡ 0) }
+        ensures heard { IfOk result (λ bank. heard_of bank.backups ≡ 0) }
     {
-        let backups = Backups::new(alloc, &settings, curve, pickup, tms)?;
+        let dial = Dial { curve, pickup, tms };
+        let backups = Backups::new(alloc, &settings, dial)?;
         Ok(BackupBank { backups, settings })
     }
 }
 
 impl Bank for BackupBank {
-    ghost use Rattle.inverse_time.specs.KeptBackups.{heard_of};
+    ghost use Rattle.line_bank.specs.KeptBank.{heard_of};
     ghost use Rattle.room_io.specs.declared.room.Slot.TheVariants.{Log};
     ghost use Rattle.relay_tool.specs.Files.{is_slot};
-    ghost use Rattle.relay_tool.specs.Banks.{backups_of, TellsBackups};
+    ghost use Rattle.relay_tool.specs.Banks.{TellsBackups};
 
-    ghost heard = { λ bank. heard_of (backups_of bank) };
+    ghost heard = { λ bank. heard_of bank.backups };
 
     ghost stands = { TellsBackups };
 

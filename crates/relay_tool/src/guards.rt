@@ -3,14 +3,14 @@ ghost use Rattle.std.specs.Prelude.{◌≡◌, ◌≤◌, length};
 ghost use Rattle.std.specs.Option.{ForSome};
 ghost use Rattle.room_io.specs.Room.{IsReadyOut};
 ghost use Rattle.room_io.specs.declared.room.Slot.TheVariants.{Log};
-ghost use Rattle.breaker_guard.specs.KeptGuards.{lines_of};
+ghost use Rattle.line_bank.specs.KeptBank.{lines_of};
 ghost use Rattle.breaker_guard.specs.GuardTexts.{IsPrintableGuard, guard_text};
 ghost use Rattle.relay_tool.specs.Making.{Puts};
 
 use crate::bank::Bank;
 use crate::put::{Failed, put};
 use arrayvec::ArrayVec;
-use breaker_guard::{GuardEvent, Guards, print_guard};
+use breaker_guard::{GuardEvent, GuardTimes, Guards, print_guard};
 use relay_num::{NoMemory, Steps};
 use relay_settings::Settings;
 use room_io::{Room, Slot};
@@ -30,11 +30,11 @@ impl GuardBank {
     ghost use Rattle.std.specs.Prelude.{◌≡◌, [], IfOk, ℕ};
     ghost use Rattle.relay_settings.specs.Settings.{plain_settings};
     ghost use Rattle.relay_settings.specs.Ranges.{InRange};
-    ghost use Rattle.breaker_guard.specs.KeptGuards.{heard_of};
+    ghost use Rattle.line_bank.specs.KeptBank.{heard_of};
     ghost use Rattle.breaker_guard.specs.Guarding.{AreTimes, times_of};
     ghost use Rattle.relay_tool.specs.Words.{guard};
     ghost use Rattle.relay_tool.specs.Output.{study_items};
-    ghost use Rattle.relay_tool.specs.Banks.{guards_of, TellsGuarded};
+    ghost use Rattle.relay_tool.specs.Banks.{TellsGuarded};
 
     /// The guards of the lines of these settings, which have heard nothing, with these times. `NoMemory`: they found no
     /// room.
@@ -48,20 +48,25 @@ impl GuardBank {
         requires settings { InRange settings }
         requires times { AreTimes (times_of fail_ms dead_ms reclaim_ms) }
         ensures stands { IfOk result (λ bank. TellsGuarded bank (study_items (guard (times_of fail_ms dead_ms reclaim_ms)) (plain_settings settings)) []) }
-        ensures heard { IfOk result (λ bank. heard_of (guards_of bank) ≡ 0) }
+        ensures heard { IfOk result (λ bank. heard_of bank.guards ≡ 0) }
     {
-        let guards = Guards::new(alloc, &settings, fail_ms, dead_ms, reclaim_ms)?;
+        let times = GuardTimes {
+            fail_ms,
+            dead_ms,
+            reclaim_ms,
+        };
+        let guards = Guards::new(alloc, &settings, times)?;
         Ok(GuardBank { guards, settings })
     }
 }
 
 impl Bank for GuardBank {
-    ghost use Rattle.breaker_guard.specs.KeptGuards.{heard_of};
+    ghost use Rattle.line_bank.specs.KeptBank.{heard_of};
     ghost use Rattle.room_io.specs.declared.room.Slot.TheVariants.{Log};
     ghost use Rattle.relay_tool.specs.Files.{is_slot};
-    ghost use Rattle.relay_tool.specs.Banks.{guards_of, TellsGuarded};
+    ghost use Rattle.relay_tool.specs.Banks.{TellsGuarded};
 
-    ghost heard = { λ bank. heard_of (guards_of bank) };
+    ghost heard = { λ bank. heard_of bank.guards };
 
     ghost stands = { TellsGuarded };
 

@@ -3,7 +3,7 @@ ghost use Rattle.std.specs.Prelude.{◌≡◌, ◌≤◌, length};
 ghost use Rattle.std.specs.Option.{ForSome};
 ghost use Rattle.room_io.specs.Room.{IsReadyOut};
 ghost use Rattle.room_io.specs.declared.room.Slot.TheVariants.{Log};
-ghost use Rattle.fault_locate.specs.KeptLocators.{lines_of};
+ghost use Rattle.line_bank.specs.KeptBank.{lines_of};
 ghost use Rattle.fault_locate.specs.LocateTexts.{IsPrintableLocated, located_text};
 ghost use Rattle.relay_tool.specs.Making.{Puts};
 
@@ -30,29 +30,29 @@ impl LocateBank {
     ghost use Rattle.std.specs.Prelude.{◌≡◌, [], IfOk, ℕ};
     ghost use Rattle.relay_settings.specs.Settings.{plain_settings};
     ghost use Rattle.relay_settings.specs.Ranges.{InRange};
-    ghost use Rattle.fault_locate.specs.KeptLocators.{heard_of};
+    ghost use Rattle.line_bank.specs.KeptBank.{heard_of};
     ghost use Rattle.relay_tool.specs.Words.{locate};
     ghost use Rattle.relay_tool.specs.Output.{study_items};
-    ghost use Rattle.relay_tool.specs.Banks.{locators_of, TellsLocated};
+    ghost use Rattle.relay_tool.specs.Banks.{TellsLocated};
 
     /// The locators of the lines of these settings, which have heard nothing. `NoMemory`: they found no room.
     pub fn new(alloc: Global, settings: Settings) -> Result<LocateBank, NoMemory>
         requires { InRange settings }
         ensures stands { IfOk result (λ bank. TellsLocated bank (study_items locate (plain_settings settings)) []) }
-        ensures heard { IfOk result (λ bank. heard_of (locators_of bank) ≡ 0) }
+        ensures heard { IfOk result (λ bank. heard_of bank.locators ≡ 0) }
     {
-        let locators = Locators::new(alloc, &settings)?;
+        let locators = Locators::new(alloc, &settings, ())?;
         Ok(LocateBank { locators, settings })
     }
 }
 
 impl Bank for LocateBank {
-    ghost use Rattle.fault_locate.specs.KeptLocators.{heard_of};
+    ghost use Rattle.line_bank.specs.KeptBank.{heard_of};
     ghost use Rattle.room_io.specs.declared.room.Slot.TheVariants.{Log};
     ghost use Rattle.relay_tool.specs.Files.{is_slot};
-    ghost use Rattle.relay_tool.specs.Banks.{locators_of, TellsLocated};
+    ghost use Rattle.relay_tool.specs.Banks.{TellsLocated};
 
-    ghost heard = { λ bank. heard_of (locators_of bank) };
+    ghost heard = { λ bank. heard_of bank.locators };
 
     ghost stands = { TellsLocated };
 
