@@ -31,7 +31,7 @@ mod waits;
 mod watch;
 
 pub use event::{GuardEvent, GuardWhat};
-pub use guard::Guards;
+pub use guard::{Guard, Guards};
 pub use laws::show_one_line;
 pub use text::print_guard;
 pub use waits::GuardTimes;

@@ -31,5 +31,5 @@ mod trips;
 mod waiting;
 
 pub use located::Located;
-pub use locator::Locators;
+pub use locator::{Locator, Locators};
 pub use text::print_located;

@@ -25,7 +25,7 @@ mod event;
 mod numbers;
 mod text;
 
-pub use backup::Backups;
+pub use backup::{Backup, Backups};
 pub use curve::{Curve, Dial};
 pub use event::{BackupEvent, BackupWhat};
 pub use numbers::multiple;
