@@ -1,29 +1,26 @@
--- What the banks of studies hold.
-use Rattle.std.specs.Prelude.{◌≡◌, List}
+-- What the bank of a study holds.
+use Rattle.std.specs.Prelude.{ℕ, ◌≡◌, List}
 use Rattle.sv_frame.specs.Asdu.{PlainAsdu}
-use Rattle.relay_settings.specs.Settings.{plain_settings}
+use Rattle.relay_settings.specs.Settings.{PlainLine, plain_settings}
+use Rattle.line_bank.specs.Banks.{told}
 use Rattle.line_bank.specs.KeptBank.{StandsFor}
-use Rattle.inverse_time.specs.declared.curve.Dial.{Dial}
-use Rattle.breaker_guard.specs.declared.waits.GuardTimes.{GuardTimes}
-use Rattle.relay_tool.specs.Words.{backup, locate, guard}
-use Rattle.relay_tool.specs.Output.{Tells, study_items}
-use Rattle.relay_tool.specs.declared.backups.BackupBank.{BackupBank}
-use Rattle.relay_tool.specs.declared.locators.LocateBank.{LocateBank}
-use Rattle.relay_tool.specs.declared.guards.GuardBank.{GuardBank}
+use Rattle.line_bank.specs.declared.element.LineElement.{Ghosts}
+use Rattle.line_bank.specs.declared.bank.LineBank.{LineBank}
+use Rattle.relay_tool.specs.Output.{Item, Tells, owner_items}
+use Rattle.relay_tool.specs.declared.study_bank.StudyBank.{StudyBank}
 
--- on some dial each sample set is told as `backup` tells it, and these were heard
-pub record TellsBackups (bank : BackupBank) (tells : Tells) (past : List PlainAsdu) : Type 0 where
-  pub dial : Dial
-  pub is : study_items (backup dial) (plain_settings bank.settings) ≡ tells
-  pub stands : StandsFor (plain_settings bank.settings) dial past bank.backups
+abbrev pub elements_of : {E Asked Told : Type 0} {g : Ghosts E Asked Told} → StudyBank E Asked Told g → LineBank E Asked Told g
+elements_of bank = bank.elements
 
--- each sample set is told as `locate` tells it, and these were heard
-pub record TellsLocated (bank : LocateBank) (tells : Tells) (past : List PlainAsdu) : Type 0 where
-  pub is : study_items locate (plain_settings bank.settings) ≡ tells
-  pub stands : StandsFor (plain_settings bank.settings) tt past bank.locators
+-- what is written of the newest of some sample sets, where this is what a line tells of the newest of its own
+abbrev pub studied_items : {Said : Type 0} → (List ℕ → Said → List Item) → (PlainLine → List PlainAsdu → Said) → List PlainLine → Tells
+studied_items items tells lines past = owner_items items (told tells lines past)
 
--- by some times each sample set is told as `guard` tells it, and these were heard
-pub record TellsGuarded (bank : GuardBank) (tells : Tells) (past : List PlainAsdu) : Type 0 where
-  pub times : GuardTimes
-  pub is : study_items (guard times) (plain_settings bank.settings) ≡ tells
-  pub stands : StandsFor (plain_settings bank.settings) times past bank.guards
+-- set to what was asked, each sample set is told by the element of its owner in the lines of what that says, and these were
+-- heard; `items` are the lines of what is told
+pub record TellsStudied {E Asked Told : Type 0} {g : Ghosts E Asked Told} (items : List ℕ → Told → List Item) (bank : StudyBank E Asked Told g) (tells : Tells) (past : List PlainAsdu) : Type 0 where
+  pub asked : Asked
+  pub lines : List ℕ → g.Said → List Item
+  pub agree : (name : List ℕ) (told : Told) → items name told ≡ lines name (g.said told)
+  pub is : studied_items lines (g.tells bank.settings.common asked) (plain_settings bank.settings).lines ≡ tells
+  pub stands : StandsFor (plain_settings bank.settings) asked past (elements_of bank)

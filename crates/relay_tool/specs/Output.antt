@@ -82,35 +82,34 @@ heard_items settings past = told_items settings.common (told settings past)
 abbrev pub backup_item : List ℕ → BackupEvent → Item
 backup_item name event = record { slot = Log; line = Some name; bytes = backup_text name event }
 
-abbrev pub backup_items : Option (TellsOf (List BackupEvent)) → List Item
-backup_items None = []
-backup_items (Some told) = map (backup_item told.line.name) told.told
+abbrev pub backup_items : List ℕ → List BackupEvent → List Item
+backup_items name events = map (backup_item name) events
 
 -- a located fault of a line
 abbrev pub located_item : List ℕ → Located → Item
 located_item name located = record { slot = Log; line = Some name; bytes = located_text name located }
 
-abbrev pub some_located : List ℕ → Option Located → List Item
-some_located name None = []
-some_located name (Some located) = located_item name located ∷ []
-
-abbrev pub located_items : Option (TellsOf (Option Located)) → List Item
-located_items None = []
-located_items (Some told) = some_located told.line.name told.told
+abbrev pub located_items : List ℕ → Option Located → List Item
+located_items name None = []
+located_items name (Some located) = located_item name located ∷ []
 
 -- an event of a line's breaker guard
 abbrev pub guard_item : List ℕ → GuardEvent → Item
 guard_item name event = record { slot = Log; line = Some name; bytes = guard_text name event }
 
-abbrev pub guard_items : Option (TellsOf (List GuardEvent)) → List Item
-guard_items None = []
-guard_items (Some told) = map (guard_item told.line.name) told.told
+abbrev pub guard_items : List ℕ → List GuardEvent → List Item
+guard_items name events = map (guard_item name) events
+
+-- what a line tells, where one owns the sample set, in lines that begin with its name
+abbrev pub owner_items : {Said : Type 0} → (List ℕ → Said → List Item) → Option (TellsOf Said) → List Item
+owner_items items None = []
+owner_items items (Some told) = items told.line.name told.told
 
 -- what a study writes of the newest of some sample sets: what the line that owns it tells
 abbrev pub study_items : Study → PlainSettings → Tells
-study_items (backup dial) settings past = backup_items (backup_told settings dial past)
-study_items locate settings past = located_items (located_told settings past)
-study_items (guard times) settings past = guard_items (guard_told settings times past)
+study_items (backup dial) settings past = owner_items backup_items (backup_told settings dial past)
+study_items locate settings past = owner_items located_items (located_told settings past)
+study_items (guard times) settings past = owner_items guard_items (guard_told settings times past)
 
 -- ---- the record of a trip
 

@@ -8,7 +8,7 @@
 //! (`specs/Answers.antt`).
 //!
 //! Each stage of the work has a file and an error type of its own: `words`, `settings`, `files`, `run`, `put`. A
-//! command chooses a bank (`bank`: `lines`, `backups`, `locators` or `guards`) and its outputs, and `run` treats a capture's records for any
+//! command chooses a bank (`bank`: `lines`, or `study_bank` over `backups`, `locators` or `guards`) and its outputs, and `run` treats a capture's records for any
 //! bank. It stands on the public contracts of the room, the feed, the settings and the station, and knows
 //! nothing of how frames are read or samples are measured.
 #![tactic(auto)]
@@ -32,6 +32,7 @@ mod replay;
 mod run;
 mod settings;
 mod study;
+mod study_bank;
 mod tally;
 mod top;
 mod words;

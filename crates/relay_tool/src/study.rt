@@ -16,16 +16,17 @@ ghost use Rattle.relay_tool.specs.Ends.{ending_by};
 ghost use Rattle.relay_tool.specs.Running.{ending_of_stop};
 ghost use Rattle.relay_tool.specs.Leaving.{Leaves};
 
-use crate::backups::BackupBank;
 use crate::bank::Bank;
 use crate::end::End;
 use crate::files::{MOST_CAPTURE, open_capture, open_output};
-use crate::guards::GuardBank;
-use crate::locators::LocateBank;
 use crate::run::{Stopped, run};
 use crate::settings::accept_settings;
+use crate::study_bank::StudyBank;
 use crate::words::{Study, StudyFiles};
+use breaker_guard::{Guard, GuardTimes};
 use capture_feed::Feed;
+use fault_locate::Locator;
+use inverse_time::{Backup, Dial};
 use room_io::{Room, Slot};
 use std::alloc::Global;
 use std::marker::Brand;
@@ -47,11 +48,12 @@ pub fn study<R: Room>(
     let mut feed = Feed::new(alloc, MOST_CAPTURE)?;
     match study {
         Study::Backup { curve, pickup, tms } => {
-            let mut bank = BackupBank::new(alloc, settings, curve, pickup, tms)?;
+            let dial = Dial { curve, pickup, tms };
+            let mut bank = StudyBank::<Backup>::new(alloc, settings, dial)?;
             observe(&mut feed, &mut bank, files, room)
         }
         Study::Locate => {
-            let mut bank = LocateBank::new(alloc, settings)?;
+            let mut bank = StudyBank::<Locator>::new(alloc, settings, ())?;
             observe(&mut feed, &mut bank, files, room)
         }
         Study::Guard {
@@ -59,7 +61,12 @@ pub fn study<R: Room>(
             dead_ms,
             reclaim_ms,
         } => {
-            let mut bank = GuardBank::new(alloc, settings, fail_ms, dead_ms, reclaim_ms)?;
+            let times = GuardTimes {
+                fail_ms,
+                dead_ms,
+                reclaim_ms,
+            };
+            let mut bank = StudyBank::<Guard>::new(alloc, settings, times)?;
             observe(&mut feed, &mut bank, files, room)
         }
     }
