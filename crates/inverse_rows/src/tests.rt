@@ -1,58 +1,46 @@
 //! Rows of sample sets with the log lines that they bring.
-ghost use Rattle.std.specs.Prelude.{◌≡◌, ◌<◌, ◌≤◌};
+ghost use Rattle.std.specs.Prelude.{◌≡◌, ◌<◌, ◌⊎◌};
 ghost use Rattle.inverse_time.specs.InverseCurves.{IsDial, dial_of};
 
-use drill::drill_text;
 use inverse_time::{Backups, Curve, Dial, multiple, print_backup};
-use relay_num::{Cx, Steps, open_steps, wave};
+use relay_num::{Cx, Steps, open_steps};
+use row_inputs::{LINES, ZONE, data_set, sample_set, settings_of, sixteen_lines, wave_value};
 use settings_read::read_settings;
 use std::alloc::{AllocError, Global};
 use std::marker::Brand;
 use std::process::Abort;
 use std::sync::ledger::{Blank, Ledger};
 use std::test::Fail;
-use sv_frame::Asdu;
-
-/// The beginning of the drill's settings, at 4800 samples a second and 50 Hz, and the keys of their first line.
-fn drill_parts() -> (&'static str, &'static str) {
-    let (top, lines) = drill_text().split_once("[[line]]").unwrap_or(("", ""));
-    let (line, _) = lines.split_once("[[line]]").unwrap_or(("", ""));
-    (top, line)
-}
-
-/// The drill's settings with their first line alone, L1 with the svID MU01.
-fn one_line(alloc: Global) -> Result<String, AllocError> {
-    let (top, line) = drill_parts();
-    let mut text = top.to_string(alloc)?;
-    text.push_str("[[line]]")?;
-    text.push_str(line)?;
-    Ok(text)
-}
 
 /// The counters from the first on to before the second: the currents of A, B and C as multiples of the sine table,
 /// and the quality word of IA.
 type Span = (u16, u16, [i32; 3], u32);
 
 /// The curve, the pickup in mA, the time multiplier in thousandths, the sample sets and the log.
-type Row<'a> = (Curve, u32, u32, &'a [Span], &'a str);
+struct Row {
+    curve: Curve,
+    pickup: u32,
+    tms: u32,
+    spans: &'static [Span],
+    log: &'static str,
+}
 
-/// The 64 bytes of the data set at this value of the sine table, with no voltage.
-fn data_of(
-    alloc: Global,
-    sine: i32,
-    scales: [i32; 3],
-    quality: u32,
-) -> Result<Vec<u8>, AllocError> {
-    let mut data = Vec::new(alloc);
-    let mut mark = quality;
-    for scale in scales {
-        let value = scale.wrapping_mul(sine);
-        data.extend_from_slice(&value.to_be_bytes())?;
-        data.extend_from_slice(&mark.to_be_bytes())?;
-        mark = 0;
-    }
-    data.extend_from_slice(&[0; 40])?;
-    Ok(data)
+/// The data set of these multiples of a sine table with `n` places, with no voltage.
+fn data_of(n: u32, counter: u16, scales: [i32; 3], quality: u32) -> [u8; 64]
+    requires { (n ≡ 80) ⊎ (n ≡ 96) }
+{
+    let [a, b, c] = scales;
+    let none = (0, 0);
+    data_set(&[
+        (wave_value(n, counter, 0, a, 0), quality),
+        (wave_value(n, counter, 0, b, 0), 0),
+        (wave_value(n, counter, 0, c, 0), 0),
+        none,
+        none,
+        none,
+        none,
+        none,
+    ])
 }
 
 /// Appends what the sample set of this svID with this counter brings to the line of this name.
@@ -61,20 +49,13 @@ fn hear_one<L: Ledger>(
     steps: &mut Steps<L>,
     (sv_id, name): (&[u8], &[u8]),
     counter: u16,
-    data: &[u8],
+    data: &[u8; 64],
     log: &mut Vec<u8>,
 ) -> Result<(), AllocError> {
-    if backups.heard() >= 1 << 40 || name.len() > 16 || data.len() > 2048 {
+    if backups.heard() >= 1 << 40 || name.len() > 16 {
         return Ok(());
     }
-    let a = Asdu {
-        sv_id,
-        counter,
-        conf_rev: 1,
-        synch: 2,
-        samples: data,
-    };
-    if let Some((_, events)) = backups.hear(&a, steps) {
+    if let Some((_, events)) = backups.hear(&sample_set(sv_id, counter, data), steps) {
         for event in events.as_slice() {
             log.extend_from_slice(print_backup(name, event).as_slice())?;
         }
@@ -84,22 +65,23 @@ fn hear_one<L: Ledger>(
 
 /// What the elements tell of these sample sets.
 fn log_of<L: Ledger>(alloc: Global, row: &Row, blank: Blank) -> Result<Vec<u8>, Fail>
-    requires pickup { (1 ≤ row.now.1) × (row.now.1 ≤ 100000000) }
-    requires tms { (25 ≤ row.now.2) × (row.now.2 ≤ 1500) }
+    requires dial { IsDial (dial_of row.now.curve row.now.pickup row.now.tms) }
     requires name { blank.name ≡ L.name }
     requires parts { blank.parts ≡ L.parts }
     requires shares { 0 < blank.parts }
 {
-    let settings = read_settings(alloc, one_line(alloc)?.as_bytes())?;
-    let (curve, pickup, tms, spans, _) = *row;
+    let settings = read_settings(alloc, settings_of(alloc, ZONE, &[])?.as_bytes())?;
     let mut steps = open_steps::<L>(blank);
-    let dial = Dial { curve, pickup, tms };
+    let dial = Dial {
+        curve: row.curve,
+        pickup: row.pickup,
+        tms: row.tms,
+    };
     let mut backups = Backups::new(alloc, &settings, dial)?;
     let mut log = Vec::new(alloc);
-    for span in spans {
+    for span in row.spans {
         for counter in span.0..span.1 {
-            let (_, sine) = wave(96, u32::from(counter) % 96);
-            let data = data_of(alloc, sine as i32, span.2, span.3)?;
+            let data = data_of(96, counter, span.2, span.3);
             hear_one(
                 &mut backups,
                 &mut steps,
@@ -149,79 +131,87 @@ const THREE: [Span; 4] = [
     (600, 1300, [250, 300, 900], 0),
 ];
 
-#[test]
-fn curves_reach_their_times(rt: HostRuntime) -> Result<(), Fail> {
-    let rows: [Row; 7] = [
-        (
-            Curve::Extremely,
-            1_000_000,
-            50,
-            &STEADY,
-            "L1 2024-01-01T00:00:00.019791666Z 95 backup A start
+static ROWS: [Row; 7] = [
+    Row {
+        curve: Curve::Extremely,
+        pickup: 1_000_000,
+        tms: 50,
+        spans: &STEADY,
+        log: "L1 2024-01-01T00:00:00.019791666Z 95 backup A start
 L1 2024-01-01T00:00:00.561041666Z 2693 backup A operate
 ",
-        ),
-        (
-            Curve::Very,
-            1_000_000,
-            50,
-            &STEADY,
-            "L1 2024-01-01T00:00:00.019791666Z 95 backup A start
+    },
+    Row {
+        curve: Curve::Very,
+        pickup: 1_000_000,
+        tms: 50,
+        spans: &STEADY,
+        log: "L1 2024-01-01T00:00:00.019791666Z 95 backup A start
 L1 2024-01-01T00:00:00.375625000Z 1803 backup A operate
 ",
-        ),
-        (
-            Curve::Extremely,
-            1_000_000,
-            25,
-            &BROKEN,
-            "L1 2024-01-01T00:00:00.019791666Z 95 backup A start
+    },
+    Row {
+        curve: Curve::Extremely,
+        pickup: 1_000_000,
+        tms: 25,
+        spans: &BROKEN,
+        log: "L1 2024-01-01T00:00:00.019791666Z 95 backup A start
 L1 2024-01-01T00:00:00.093750000Z 450 backup A drop
 L1 2024-01-01T00:00:00.113541666Z 545 backup A start
 L1 2024-01-01T00:00:00.384166666Z 1844 backup A operate
 L1 2024-01-01T00:00:00.411041666Z 1973 backup A drop
 L1 2024-01-01T00:00:00.445416666Z 2138 backup A start
 ",
-        ),
-        (
-            Curve::Extremely,
-            1_000_000,
-            25,
-            &ONE_BAD,
-            "L1 2024-01-01T00:00:00.019791666Z 95 backup A start
+    },
+    Row {
+        curve: Curve::Extremely,
+        pickup: 1_000_000,
+        tms: 25,
+        spans: &ONE_BAD,
+        log: "L1 2024-01-01T00:00:00.019791666Z 95 backup A start
 L1 2024-01-01T00:00:00.125000000Z 600 backup A drop
 L1 2024-01-01T00:00:00.145000000Z 696 backup A start
 L1 2024-01-01T00:00:00.415625000Z 1995 backup A operate
 ",
-        ),
-        (
-            Curve::Very,
-            1_000_000,
-            25,
-            &THREE,
-            "L1 2024-01-01T00:00:00.045833333Z 220 backup A start
+    },
+    Row {
+        curve: Curve::Very,
+        pickup: 1_000_000,
+        tms: 25,
+        spans: &THREE,
+        log: "L1 2024-01-01T00:00:00.045833333Z 220 backup A start
 L1 2024-01-01T00:00:00.086250000Z 414 backup B start
 L1 2024-01-01T00:00:00.125833333Z 604 backup C start
 L1 2024-01-01T00:00:00.171250000Z 822 backup C operate
 L1 2024-01-01T00:00:00.230833333Z 1108 backup B operate
 L1 2024-01-01T00:00:00.231250000Z 1110 backup A operate
 ",
-        ),
-        (
-            Curve::Extremely,
-            1,
-            1500,
-            &STEADY,
-            "L1 2024-01-01T00:00:00.019791666Z 95 backup A start
+    },
+    Row {
+        curve: Curve::Extremely,
+        pickup: 1,
+        tms: 1500,
+        spans: &STEADY,
+        log: "L1 2024-01-01T00:00:00.019791666Z 95 backup A start
 L1 2024-01-01T00:00:00.320416666Z 1538 backup A operate
 ",
-        ),
-        (Curve::Very, 100_000_000, 1500, &STEADY, ""),
-    ];
-    for row in &rows {
-        assert!(rt; row.1 >= 1 && row.1 <= 100_000_000 && row.2 >= 25 && row.2 <= 1500);
+    },
+    Row {
+        curve: Curve::Very,
+        pickup: 100_000_000,
+        tms: 1500,
+        spans: &STEADY,
+        log: "",
+    },
+];
+
+#[test]
+fn curves_reach_their_times(rt: HostRuntime) -> Result<(), Fail> {
+    for row in &ROWS {
+        assert!(rt; row.pickup >= 1 && row.pickup <= 100_000_000);
+        assert!(rt; row.tms >= 25 && row.tms <= 1500);
         let log = log_of::<Brand>(rt.alloc(), row, Blank::new(1))?;
-        assert_eq!(rt; log.as_slice(), row.4.as_bytes());
+        assert_eq!(rt; log.as_slice(), row.log.as_bytes());
     }
     Ok(())
 }
@@ -232,7 +222,7 @@ fn log_at_4000<L: Ledger>(alloc: Global, curve: Curve, blank: Blank) -> Result<V
     requires parts { blank.parts ≡ L.parts }
     requires shares { 0 < blank.parts }
 {
-    let text = one_line(alloc)?.replacen(alloc, "rate = 4800", "rate = 4000", 1)?;
+    let text = settings_of(alloc, ZONE, &[("rate = 4800", "rate = 4000")])?;
     let settings = read_settings(alloc, text.as_bytes())?;
     let mut steps = open_steps::<L>(blank);
     let dial = Dial {
@@ -243,8 +233,7 @@ fn log_at_4000<L: Ledger>(alloc: Global, curve: Curve, blank: Blank) -> Result<V
     let mut backups = Backups::new(alloc, &settings, dial)?;
     let mut log = Vec::new(alloc);
     for counter in 0..1200_u16 {
-        let (_, sine) = wave(80, u32::from(counter) % 80);
-        let data = data_of(alloc, sine as i32, [250, 0, 0], 0)?;
+        let data = data_of(80, counter, [250, 0, 0], 0);
         hear_one(
             &mut backups,
             &mut steps,
@@ -282,47 +271,13 @@ fn times_are_those_of_the_rate(rt: HostRuntime) -> Result<(), Fail> {
     Ok(())
 }
 
-/// The name and the svID of each of sixteen lines.
-const LINES: [(&str, &str); 16] = [
-    ("L01", "MU01"),
-    ("L02", "MU02"),
-    ("L03", "MU03"),
-    ("L04", "MU04"),
-    ("L05", "MU05"),
-    ("L06", "MU06"),
-    ("L07", "MU07"),
-    ("L08", "MU08"),
-    ("L09", "MU09"),
-    ("L10", "MU10"),
-    ("L11", "MU11"),
-    ("L12", "MU12"),
-    ("L13", "MU13"),
-    ("L14", "MU14"),
-    ("L15", "MU15"),
-    ("L16", "MU16"),
-];
-
-/// The settings of these lines, each with a control block reference of its own.
-fn sixteen_of(alloc: Global) -> Result<String, AllocError> {
-    let (top, line) = drill_parts();
-    let mut text = top.to_string(alloc)?;
-    for (name, sv_id) in &LINES {
-        let named = line.replacen(alloc, "L1", name, 1)?;
-        let owning = named.replacen(alloc, "MU01", sv_id, 1)?;
-        let sending = owning.replacen(alloc, "$G1", sv_id, 1)?;
-        text.push_str("[[line]]")?;
-        text.push_str(&sending)?;
-    }
-    Ok(text)
-}
-
 /// The lines' sample sets in turn: phase A of the first has 50 times the sine table, of the second 100, and so on.
 fn sixteen_logs<L: Ledger>(alloc: Global, blank: Blank) -> Result<Vec<u8>, Fail>
     requires name { blank.name ≡ L.name }
     requires parts { blank.parts ≡ L.parts }
     requires shares { 0 < blank.parts }
 {
-    let text = sixteen_of(alloc)?;
+    let text = sixteen_lines(alloc)?;
     let settings = read_settings(alloc, text.as_bytes())?;
     let mut steps = open_steps::<L>(blank);
     let dial = Dial {
@@ -333,11 +288,10 @@ fn sixteen_logs<L: Ledger>(alloc: Global, blank: Blank) -> Result<Vec<u8>, Fail>
     let mut backups = Backups::new(alloc, &settings, dial)?;
     let mut log = Vec::new(alloc);
     for counter in 0..700_u16 {
-        let (_, sine) = wave(96, u32::from(counter) % 96);
         let mut scale: i32 = 0;
         for (name, sv_id) in &LINES {
             scale = scale.wrapping_add(50);
-            let data = data_of(alloc, sine as i32, [scale, 0, 0], 0)?;
+            let data = data_of(96, counter, [scale, 0, 0], 0);
             hear_one(
                 &mut backups,
                 &mut steps,

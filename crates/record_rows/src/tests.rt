@@ -2,77 +2,13 @@
 ghost use Rattle.std.specs.Prelude.{◌≡◌, ◌<◌};
 
 use comtrade_write::{PairError, PairSample, Recorder, read_pair};
-use relay_num::{Steps, open_steps, wave};
+use relay_num::{Steps, open_steps};
+use row_inputs::{CONFIG, Signal, ZONE, changed, channels_of, data_set, sample_set, settings_of};
 use settings_read::read_settings;
 use std::alloc::{AllocError, Global};
 use std::marker::Brand;
 use std::sync::ledger::{Blank, Ledger};
 use std::test::Fail;
-use sv_frame::Asdu;
-
-/// One line at 4800 samples a second and 50 Hz, with one mho zone that trips at once.
-const SETTINGS: &str = "version = 1
-start = \"2024-01-01T00:00:00Z\"
-rate = 4800
-nominal = 50
-heartbeat_ms = 1000
-
-[[line]]
-name = \"L,1\"
-sv_id = \"MU01\"
-conf_rev = 1
-line_r = 0
-line_x = 15000
-k0_re = 600
-k0_im = 0
-i_min = 200000
-i0_min = 100000
-dir_i2 = 100000
-mem_u = 1000000
-mem_ms = 200
-trip_min_ms = 100
-open_i = 50000
-open_ms = 20
-
-[line.goose]
-dst = \"01-0C-CD-01-00-01\"
-src = \"02-00-00-00-00-02\"
-appid = 1
-gocb_ref = \"P1/LLN0$GO$G1\"
-dat_set = \"P1/LLN0$DS1\"
-go_id = \"G1\"
-conf_rev = 1
-
-[[line.zone]]
-shape = \"mho\"
-dir = \"forward\"
-reach_r = 0
-reach_x = 12500
-delay_ms = 0
-trip = true
-swing_block = false
-load_block = false
-";
-
-/// The configuration of the record with no sample missing.
-const CONFIG: &str = "L_1,relay,1999\r
-8,6A,2D\r
-1,IA,A,,mA,1,0,0,-268435455,268435455,1,1,P\r
-2,IB,B,,mA,1,0,0,-268435455,268435455,1,1,P\r
-3,IC,C,,mA,1,0,0,-268435455,268435455,1,1,P\r
-4,UA,A,,mV,10,0,0,-268435455,268435455,1,1,P\r
-5,UB,B,,mV,10,0,0,-268435455,268435455,1,1,P\r
-6,UC,C,,mV,10,0,0,-268435455,268435455,1,1,P\r
-1,GOOD,,,0\r
-2,TRIP,,,0\r
-50\r
-1\r
-4800,577\r
-01/01/2024,00:00:00.277708\r
-01/01/2024,00:00:00.317708\r
-ASCII\r
-1\r
-";
 
 /// Which sample sets don't come, and at which number the quality of IA is bad.
 struct Row {
@@ -81,66 +17,36 @@ struct Row {
     bad: u16,
 }
 
-/// Appends a channel: its value, which is so many times that of a table, and its quality word.
-fn put_channel(data: &mut Vec<u8>, scale: i32, table: i64, quality: u32) -> Result<(), AllocError> {
-    let value = scale.wrapping_mul(i32::try_from(table).unwrap_or(0));
-    data.extend_from_slice(&value.to_be_bytes())?;
-    data.extend_from_slice(&quality.to_be_bytes())?;
-    Ok(())
-}
-
-/// The 64 bytes of the data set: healthy before the number 1464, and from then on half the voltage and some current in
-/// phase A.
-fn data_of(alloc: Global, counter: u16, bad: bool) -> Result<Vec<u8>, AllocError> {
-    let place = u32::from(counter);
-    let (cosine, sine) = wave(96, place % 96);
-    let (cosine_b, _) = wave(96, (place + 64) % 96);
-    let (cosine_c, _) = wave(96, (place + 32) % 96);
-    let (current, voltage) = if counter < 1464 { (0, 500) } else { (250, 250) };
-    let mut data = Vec::new(alloc);
-    put_channel(&mut data, current, sine, u32::from(bad))?;
-    put_channel(&mut data, 0, 0, 0)?;
-    put_channel(&mut data, 0, 0, 0)?;
-    put_channel(&mut data, current, sine, 0x2000)?;
-    put_channel(&mut data, voltage, cosine, 0)?;
-    put_channel(&mut data, 500, cosine_b, 0)?;
-    put_channel(&mut data, 500, cosine_c, 0)?;
-    put_channel(&mut data, 0, 0, 0)?;
-    Ok(data)
+/// The data set: healthy before the number 1464, and from then on a ground fault. IA may be bad.
+fn data_of(counter: u16, bad: bool) -> [u8; 64] {
+    let signal = if counter < 1464 {
+        Signal::Healthy
+    } else {
+        Signal::Fault
+    };
+    let mut channels = channels_of(signal, counter);
+    channels[0].1 = u32::from(bad);
+    data_set(&channels)
 }
 
 /// Hears the sample set with this counter, and one of another line.
-fn hear_one<L: Ledger>(
-    alloc: Global,
-    recorder: &mut Recorder,
-    steps: &mut Steps<L>,
-    counter: u16,
-    bad: bool,
-) -> Result<(), AllocError> {
-    let data = data_of(alloc, counter, bad)?;
+fn hear_one<L: Ledger>(recorder: &mut Recorder, steps: &mut Steps<L>, counter: u16, bad: bool) {
+    let data = data_of(counter, bad);
     for sv_id in [b"MU01", b"MU02"] {
-        if recorder.heard() >= 1 << 40 || data.len() > 64 {
-            return Ok(());
+        if recorder.heard() < 1 << 40 {
+            recorder.hear(&sample_set(sv_id, counter, &data), steps);
         }
-        let a = Asdu {
-            sv_id,
-            counter,
-            conf_rev: 1,
-            synch: 2,
-            samples: data.as_slice(),
-        };
-        recorder.hear(&a, steps);
     }
-    Ok(())
 }
 
-/// A recorder of the k-th trip, after the sample sets with the counters from 0 to 1999.
+/// A recorder of the k-th trip of the line named `L,1`, after the sample sets with the counters from 0 to 1999.
 fn recorder_of<L: Ledger>(alloc: Global, row: &Row, k: u32, blank: Blank) -> Result<Recorder, Fail>
     requires name { blank.name ≡ L.name }
     requires parts { blank.parts ≡ L.parts }
     requires shares { 0 < blank.parts }
 {
-    let settings = read_settings(alloc, SETTINGS.as_bytes())?;
+    let text = settings_of(alloc, ZONE, &[("\"L1\"", "\"L,1\"")])?;
+    let settings = read_settings(alloc, text.as_bytes())?;
     if settings.lines.is_empty() || k < 1 || k > 1_000_000 {
         return Err(Fail::from("no such line or trip"));
     }
@@ -148,13 +54,7 @@ fn recorder_of<L: Ledger>(alloc: Global, row: &Row, k: u32, blank: Blank) -> Res
     let mut recorder = Recorder::new(alloc, &settings, 0, k)?;
     for counter in 0..2000 {
         if counter < row.missing_from || counter >= row.missing_to {
-            hear_one(
-                alloc,
-                &mut recorder,
-                &mut steps,
-                counter,
-                counter == row.bad,
-            )?;
+            hear_one(&mut recorder, &mut steps, counter, counter == row.bad);
         }
     }
     Ok(recorder)
@@ -221,7 +121,8 @@ fn ground_fault_is_recorded(rt: HostRuntime) -> Result<(), Fail> {
     assert_eq!(rt; recorder.trips(), 1);
     assert_eq!(rt; recorder.count(), 577);
     let config = config_of(rt.alloc(), &recorder)?;
-    assert_eq!(rt; config.as_slice(), CONFIG.as_bytes());
+    let want = changed(rt.alloc(), CONFIG, &[("L1,", "L_1,")])?;
+    assert_eq!(rt; config.as_slice(), want.as_bytes());
     let lines: [(usize, &[u8]); 4] = [
         (1, b"1,0,0,0,0,6159000,-7757500,1598000,1,0\r\n"),
         (

@@ -1,15 +1,15 @@
-//! Rows of the whole relay, one file a subject, over the inputs of the first.
+//! Rows of the whole relay, one file a subject, over the runs of `runs`.
 mod blocks;
 mod captures;
 mod drills;
 mod failing;
-mod inputs;
 mod numbers;
+mod parts;
 mod plain;
 mod records;
+mod runs;
 mod sent;
 mod settings;
-mod signals;
 mod stations;
 mod studies;
 mod zones;

@@ -3,21 +3,12 @@ ghost use Rattle.std.specs.Prelude.{◌≡◌, ◌<◌, ◌≤◌, length, min};
 
 use arrayvec::ArrayVec;
 use relay_num::open_steps;
+use row_inputs::{Form, PAIR, SAMPLE_FRAME, SEVENTEEN, SIXTEEN, frame_of_zeros};
 use std::marker::Brand;
+use std::process::Abort;
 use std::sync::ledger::{Blank, Ledger};
+use std::test::Fail;
 use sv_frame::{Asdu, Channel, Reason, SvRead, read};
-
-/// A frame of 116 bytes with one ASDU: svID MU01, smpCnt 0, confRev 1, smpSynch 2, and eight zeros.
-const SAMPLE_FRAME: [u8; 116] = [
-    0x01, 0x0c, 0xcd, 0x04, 0x00, 0x01, 0x02, 0x00, 0x00, 0x00, 0x00, 0x01, 0x88, 0xba, 0x40, 0x00,
-    0x00, 0x66, 0x00, 0x00, 0x00, 0x00, 0x60, 0x5c, 0x80, 0x01, 0x01, 0xa2, 0x57, 0x30, 0x55, 0x80,
-    0x04, 0x4d, 0x55, 0x30, 0x31, 0x82, 0x02, 0x00, 0x00, 0x83, 0x04, 0x00, 0x00, 0x00, 0x01, 0x85,
-    0x01, 0x02, 0x87, 0x40, 0x00, 0x00, 0x00, 0x00, 0x00, 0x00, 0x00, 0x00, 0x00, 0x00, 0x00, 0x00,
-    0x00, 0x00, 0x00, 0x00, 0x00, 0x00, 0x00, 0x00, 0x00, 0x00, 0x00, 0x00, 0x00, 0x00, 0x00, 0x00,
-    0x00, 0x00, 0x00, 0x00, 0x00, 0x00, 0x00, 0x00, 0x00, 0x00, 0x00, 0x00, 0x00, 0x00, 0x00, 0x00,
-    0x00, 0x00, 0x00, 0x00, 0x00, 0x00, 0x00, 0x00, 0x00, 0x00, 0x00, 0x00, 0x00, 0x00, 0x00, 0x00,
-    0x00, 0x00, 0x00, 0x00,
-];
 
 /// Twelve empty fields of a tag that no ASDU knows.
 const UNKNOWN_FIELDS: [u8; 24] = [
@@ -150,68 +141,44 @@ fn changed_frames_fail_in_their_layer(rt: HostRuntime) {
     }
 }
 
-/// The bytes from the length of the APDU on to the head of the sequence, and how many ASDUs follow.
-static SEQUENCES: [(&'static [u8], u8, &'static str); 3] = [
-    (
-        &[
-            0x00, 0xbf, 0, 0, 0, 0, 0x60, 0x81, 0xb4, 0x80, 1, 2, 0xa2, 0x81, 0xae,
-        ],
-        2,
-        "read",
-    ),
-    (
-        &[
-            0x05, 0x83, 0, 0, 0, 0, 0x60, 0x82, 0x05, 0x77, 0x80, 1, 16, 0xa2, 0x82, 0x05, 0x70,
-        ],
-        16,
-        "read",
-    ),
-    (
-        &[
-            0x05, 0xda, 0, 0, 0, 0, 0x60, 0x82, 0x05, 0xce, 0x80, 1, 17, 0xa2, 0x82, 0x05, 0xc7,
-        ],
-        17,
-        "count",
-    ),
+/// Forms of frames, each with so many ASDUs.
+static SEQUENCES: [(&'static Form, &'static str); 3] = [
+    (&PAIR, "read"),
+    (&SIXTEEN, "read"),
+    (&SEVENTEEN, "count"),
 ];
 
-/// A frame whose ASDUs are the sample frame's, with the counters 0, 1, 2 and so on.
-fn sequence(words: &[u8], count: u8) -> ArrayVec<u8, 2048> {
-    let mut frame = ArrayVec::new();
-    let _ = frame.try_extend_from_slice(&SAMPLE_FRAME[..16]);
-    let _ = frame.try_extend_from_slice(words);
-    for counter in 0..count {
-        let _ = frame.try_extend_from_slice(&SAMPLE_FRAME[29..40]);
-        let _ = frame.try_push(counter);
-        let _ = frame.try_extend_from_slice(&SAMPLE_FRAME[41..]);
-    }
-    frame
+/// An ASDU of a frame of zeros, at this place of its sequence.
+fn expect_zeros(rt: &impl Abort, asdu: &Asdu, place: usize) {
+    assert_eq!(rt; asdu.sv_id, b"MU01".as_slice());
+    assert_eq!(rt; asdu.counter as usize, place);
+    assert_eq!(rt; asdu.conf_rev, 1);
+    assert_eq!(rt; asdu.synch, 2);
+    assert_eq!(rt;
+        asdu.channels(),
+        Some([Channel {
+            value: 0,
+            quality: 0
+        }; 8])
+    );
 }
 
 #[test]
-fn each_asdu_of_a_frame_is_read(rt: HostRuntime) {
-    for (words, count, want) in &SEQUENCES {
-        let frame = sequence(words, *count);
+fn each_asdu_of_a_frame_is_read(rt: HostRuntime) -> Result<(), Fail> {
+    for (form, want) in &SEQUENCES {
+        let frame = frame_of_zeros(rt.alloc(), form, 0)?;
+        assert!(rt; frame.len() <= 2048);
         let said = answer::<Brand>(frame.as_slice(), frame.len() as u32, Blank::new(1));
-        assert_eq!(rt; word(&said), *want, "{count} ASDUs");
+        assert_eq!(rt; word(&said), *want, "{} ASDUs", form.0);
         let SvRead::Pdu(asdus) = said else {
             continue;
         };
-        assert_eq!(rt; asdus.len(), *count as usize);
+        assert_eq!(rt; asdus.len(), form.0 as usize);
         for (place, asdu) in asdus.iter().enumerate() {
-            assert_eq!(rt; asdu.sv_id, b"MU01".as_slice());
-            assert_eq!(rt; asdu.counter as usize, place);
-            assert_eq!(rt; asdu.conf_rev, 1);
-            assert_eq!(rt; asdu.synch, 2);
-            assert_eq!(rt;
-                asdu.channels(),
-                Some([Channel {
-                    value: 0,
-                    quality: 0
-                }; 8])
-            );
+            expect_zeros(&rt, asdu, place);
         }
     }
+    Ok(())
 }
 
 fn with_data(samples: &[u8]) -> Asdu<'_>

@@ -1,7 +1,8 @@
 //! Captures in pcapng with the log that they give.
 
-use super::captures::{GOOSE, ONE_SAMPLE, Outcome, run_row};
-use super::inputs::{SAMPLE_FRAME, SETTINGS};
+use super::captures::{GOOSE, ONE_SAMPLE};
+use super::runs::{Goose, Outcome, run_in_pieces};
+use row_inputs::{SAMPLE_FRAME, SETTINGS};
 use std::alloc::{AllocError, Global};
 use std::test::Fail;
 
@@ -27,12 +28,13 @@ const SIMPLE: &[u8] = b"\x03\0\0\0\x84\0\0\0\x74\0\0\0";
 const DAMAGED: Outcome = Outcome {
     status: 5,
     note: "capture damaged after 0 records length 148\n",
-    goose: &GOOSE,
+    answer: "",
     log: "",
+    goose: Goose::Is(&GOOSE),
 };
 
 /// Captures of one packet, how many last bytes are missing, and what comes of them.
-static ROWS: [(Blocks, usize, Outcome); 7] = [
+static ROWS: [(Blocks, usize, Outcome<'static>); 7] = [
     ((SECTION, ETHERNET, ENHANCED, b"\x94\0\0\0"), 0, ONE_SAMPLE),
     ((SECTION, ETHERNET, SIMPLE, b"\x84\0\0\0"), 0, ONE_SAMPLE),
     (
@@ -41,8 +43,9 @@ static ROWS: [(Blocks, usize, Outcome); 7] = [
         Outcome {
             status: 0,
             note: "",
-            goose: &GOOSE,
+            answer: "",
             log: "",
+            goose: Goose::Is(&GOOSE),
         },
     ),
     (
@@ -51,8 +54,9 @@ static ROWS: [(Blocks, usize, Outcome); 7] = [
         Outcome {
             status: 4,
             note: "capture cut after 0 records\n",
-            goose: &GOOSE,
+            answer: "",
             log: "",
+            goose: Goose::Is(&GOOSE),
         },
     ),
     ((SECTION, ETHERNET, ENHANCED, b"\x90\0\0\0"), 0, DAMAGED),
@@ -63,8 +67,9 @@ static ROWS: [(Blocks, usize, Outcome); 7] = [
         Outcome {
             status: 3,
             note: "not a capture\n",
-            goose: &[],
+            answer: "",
             log: "",
+            goose: Goose::Is(&[]),
         },
     ),
 ];
@@ -86,7 +91,7 @@ fn capture_of(alloc: Global, blocks: &Blocks, missing: usize) -> Result<Vec<u8>,
 fn blocks_give_their_log(rt: HostRuntime) -> Result<(), Fail> {
     for (blocks, missing, want) in &ROWS {
         let capture = capture_of(rt.alloc(), blocks, *missing)?;
-        run_row(&rt, rt.alloc(), SETTINGS.as_bytes(), &capture, want)?;
+        run_in_pieces(&rt, rt.alloc(), SETTINGS, &capture, want)?;
     }
     Ok(())
 }

@@ -1,21 +1,10 @@
 //! Captures with the log that they give, however reads and writes are cut.
-ghost use Rattle.std.specs.Prelude.{◌≡◌, ◌<◌};
-
-use super::inputs::{
-    PAIR, Part, SETTINGS, SEVENTEEN, SINGLE, SIXTEEN, TAGGED, capture_of, replay_words, room_of,
-    settings_with,
-};
-use relay_tool::relay;
-use room_io::{MemRoom, Slot};
-use std::alloc::Global;
-use std::process::Abort;
+use super::parts::{Part, capture_of};
+use super::runs::{DONE, Goose, Outcome, run_in_pieces};
+use row_inputs::{LITTLE_MICROS, PAIR, SETTINGS, SEVENTEEN, SINGLE, SIXTEEN, TAGGED, settings_of};
 use std::test::Fail;
 
-/// The four spellings of the magic number: microseconds and nanoseconds, lowest or highest byte first.
-pub const LITTLE_MICROS: [u8; 24] = [
-    0xd4, 0xc3, 0xb2, 0xa1, 2, 0, 4, 0, 0, 0, 0, 0, 0, 0, 0, 0, 0xff, 0xff, 0, 0, 1, 0, 0, 0,
-];
-
+/// The other spellings of the magic number: nanoseconds too, and the highest byte first.
 const LITTLE_NANOS: [u8; 24] = [
     0x4d, 0x3c, 0xb2, 0xa1, 2, 0, 4, 0, 0, 0, 0, 0, 0, 0, 0, 0, 0xff, 0xff, 0, 0, 1, 0, 0, 0,
 ];
@@ -51,6 +40,11 @@ pub const ONE_FRAME: [u8; 168] = [
 
 pub const FIRST: &str = "L1 2024-01-01T00:00:00.000000000Z 0 first\n";
 
+/// The log of a whole cycle.
+pub const READY: &str = "L1 2024-01-01T00:00:00.000000000Z 0 first
+L1 2024-01-01T00:00:00.019791666Z 95 ready
+";
+
 /// The type of Internet traffic.
 const OTHER: [(usize, u8); 2] = [(12, 0x08), (13, 0x00)];
 
@@ -66,27 +60,9 @@ static ROWS: [Row; 16] = [
     (&[], 24, ""),
     (&[(0, 95, &SINGLE, &[], 116)], 456, FIRST),
     // A whole cycle, in frames of one, of two and of sixteen sample sets.
-    (
-        &[(0, 96, &SINGLE, &[], 116)],
-        600,
-        "L1 2024-01-01T00:00:00.000000000Z 0 first
-L1 2024-01-01T00:00:00.019791666Z 95 ready
-",
-    ),
-    (
-        &[(0, 96, &PAIR, &[], 205)],
-        600,
-        "L1 2024-01-01T00:00:00.000000000Z 0 first
-L1 2024-01-01T00:00:00.019791666Z 95 ready
-",
-    ),
-    (
-        &[(0, 96, &SIXTEEN, &[], 1425)],
-        600,
-        "L1 2024-01-01T00:00:00.000000000Z 0 first
-L1 2024-01-01T00:00:00.019791666Z 95 ready
-",
-    ),
+    (&[(0, 96, &SINGLE, &[], 116)], 600, READY),
+    (&[(0, 96, &PAIR, &[], 205)], 600, READY),
+    (&[(0, 96, &SIXTEEN, &[], 1425)], 600, READY),
     // A current of 268435456 mA, which is no good sample.
     (
         &[
@@ -193,98 +169,28 @@ frame 7 malformed asdu
     ),
 ];
 
-/// What a run is to leave: its status, its note, the GOOSE file and the log.
-#[derive(Clone, Copy)]
-pub struct Outcome {
-    pub status: u8,
-    pub note: &'static str,
-    pub goose: &'static [u8],
-    pub log: &'static str,
-}
-
 pub const ONE_SAMPLE: Outcome = Outcome {
     status: 0,
     note: "",
-    goose: &ONE_FRAME,
+    answer: "",
     log: FIRST,
+    goose: Goose::Is(&ONE_FRAME),
 };
-
-/// Runs the relay on these inputs, with reads and writes in pieces: its status, and the room behind it.
-pub fn replayed(
-    alloc: Global,
-    settings: &[u8],
-    capture: &[u8],
-    most: usize,
-) -> Result<(u8, MemRoom), Fail>
-    requires { 0 < most }
-{
-    let words = replay_words(alloc)?;
-    let mut room = room_of(alloc, settings, capture)?;
-    room.pieces(most);
-    let status = relay(alloc, &words, &mut room);
-    Ok((status, room))
-}
-
-/// Runs the relay on these inputs, with reads and writes whole and in pieces.
-pub fn run_row(
-    rt: &impl Abort,
-    alloc: Global,
-    settings: &[u8],
-    capture: &[u8],
-    want: &Outcome,
-) -> Result<(), Fail> {
-    for most in [1, 7, 65537] {
-        let (status, room) = replayed(alloc, settings, capture, most)?;
-        assert_eq!(rt;
-            room.written(Slot::Log),
-            want.log.as_bytes(),
-            "pieces of {most}"
-        );
-        assert_eq!(rt; room.written(Slot::Goose), want.goose, "pieces of {most}");
-        assert_eq!(rt;
-            room.written(Slot::Note),
-            want.note.as_bytes(),
-            "pieces of {most}"
-        );
-        assert_eq!(rt; status, want.status, "pieces of {most}");
-    }
-    Ok(())
-}
-
-/// Runs the relay on these inputs, with reads and writes whole and in pieces, to their end.
-pub fn run_whole(
-    rt: &impl Abort,
-    alloc: Global,
-    settings: &[u8],
-    capture: &[u8],
-    goose: usize,
-    log: &str,
-) -> Result<(), Fail> {
-    for most in [1, 7, 65537] {
-        let (status, room) = replayed(alloc, settings, capture, most)?;
-        assert_eq!(rt; room.written(Slot::Log), log.as_bytes(), "pieces of {most}");
-        assert_eq!(rt; room.written(Slot::Goose).len(), goose, "pieces of {most}");
-        assert_eq!(rt;
-            room.written(Slot::Note),
-            b"".as_slice(),
-            "pieces of {most}"
-        );
-        assert_eq!(rt; status, 0, "pieces of {most}");
-    }
-    Ok(())
-}
 
 #[test]
 fn captures_give_their_log(rt: HostRuntime) -> Result<(), Fail> {
+    let alloc = rt.alloc();
     for (parts, goose, log) in &ROWS {
-        let capture = capture_of(rt.alloc(), &LITTLE_MICROS, parts)?;
-        run_whole(&rt, rt.alloc(), SETTINGS.as_bytes(), &capture, *goose, log)?;
+        let capture = capture_of(alloc, &LITTLE_MICROS, parts)?;
+        let goose = Goose::IsLong(*goose);
+        let want = Outcome { log, goose, ..DONE };
+        run_in_pieces(&rt, alloc, SETTINGS, &capture, &want)?;
     }
     Ok(())
 }
 
 /// The capture's header and records, how many of its last bytes it lacks, and what the run is to leave.
-type Stop = (&'static [u8], &'static [Part], usize, Outcome);
+type Stop = (&'static [u8], &'static [Part], usize, Outcome<'static>);
 
 static STOPS: [Stop; 7] = [
     // Each spelling of the header, in which the numbers of the records are spelled too.
@@ -299,8 +205,9 @@ static STOPS: [Stop; 7] = [
         Outcome {
             status: 3,
             note: "not a capture\n",
-            goose: &[],
+            answer: "",
             log: "",
+            goose: Goose::Is(&[]),
         },
     ),
     // The tenth record lacks its last byte.
@@ -311,8 +218,9 @@ static STOPS: [Stop; 7] = [
         Outcome {
             status: 4,
             note: "capture cut after 9 records\n",
-            goose: &ONE_FRAME,
+            answer: "",
             log: FIRST,
+            goose: Goose::Is(&ONE_FRAME),
         },
     ),
     // A record that is a byte too long.
@@ -323,8 +231,9 @@ static STOPS: [Stop; 7] = [
         Outcome {
             status: 5,
             note: "capture damaged after 0 records length 262145\n",
-            goose: &GOOSE,
+            answer: "",
             log: "",
+            goose: Goose::Is(&GOOSE),
         },
     ),
     (
@@ -334,19 +243,21 @@ static STOPS: [Stop; 7] = [
         Outcome {
             status: 5,
             note: "capture damaged after 1 records length 262145\n",
-            goose: &ONE_FRAME,
+            answer: "",
             log: FIRST,
+            goose: Goose::Is(&ONE_FRAME),
         },
     ),
 ];
 
 #[test]
 fn captures_stop_as_they_are_spelled(rt: HostRuntime) -> Result<(), Fail> {
+    let alloc = rt.alloc();
     for (header, parts, missing, want) in &STOPS {
-        let mut capture = capture_of(rt.alloc(), header, parts)?;
+        let mut capture = capture_of(alloc, header, parts)?;
         let whole = capture.len();
         capture.truncate(whole.saturating_sub(*missing));
-        run_row(&rt, rt.alloc(), SETTINGS.as_bytes(), &capture, want)?;
+        run_in_pieces(&rt, alloc, SETTINGS, &capture, want)?;
     }
     Ok(())
 }
@@ -369,10 +280,13 @@ L1 2024-01-01T00:00:00.019750000Z 79 ready
 
 #[test]
 fn a_cycle_has_eighty_samples_at_other_rates(rt: HostRuntime) -> Result<(), Fail> {
-    let capture = capture_of(rt.alloc(), &LITTLE_MICROS, &[(0, 80, &SINGLE, &[], 116)])?;
+    let alloc = rt.alloc();
+    let capture = capture_of(alloc, &LITTLE_MICROS, &[(0, 80, &SINGLE, &[], 116)])?;
     for (rates, log) in &RATES {
-        let settings = settings_with(rt.alloc(), "rate = 4800\nnominal = 50\n", rates)?;
-        run_whole(&rt, rt.alloc(), settings.as_bytes(), &capture, 600, log)?;
+        let settings = settings_of(alloc, "", &[("rate = 4800\nnominal = 50\n", *rates)])?;
+        let goose = Goose::IsLong(600);
+        let want = Outcome { log, goose, ..DONE };
+        run_in_pieces(&rt, alloc, &settings, &capture, &want)?;
     }
     Ok(())
 }

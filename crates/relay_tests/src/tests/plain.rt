@@ -1,17 +1,15 @@
 //! A plain program that sums the window anew, beside the front that slides.
 ghost use Rattle.std.specs.Prelude.{◌≡◌, ◌<◌};
 
-use super::inputs::{SETTINGS, settings_with};
-use super::signals::{Signal, Span, data_of};
 use line_relay::{Front, Step};
 use relay_num::{Cx, Steps, open_steps, wave};
 use relay_settings::Mimic;
+use row_inputs::{SETTINGS, Signal, Span, data_of, sample_set, settings_of};
 use settings_read::read_settings;
 use std::alloc::Global;
 use std::marker::Brand;
 use std::sync::ledger::{Blank, Ledger};
 use std::test::Fail;
-use sv_frame::Asdu;
 
 /// A taken sample.
 #[derive(Clone, Copy, Drop)]
@@ -137,7 +135,7 @@ fn compare<L: Ledger>(
     let mut samples = Vec::new(alloc);
     for (from, to, signal) in spans {
         for counter in *from..*to {
-            let data = data_of(alloc, *signal, counter)?;
+            let data = data_of(*signal, counter);
             let step = match hear(&mut front, counter, &data, &mut steps) {
                 Some(step) => step,
                 None => return Ok(compared),
@@ -167,20 +165,13 @@ fn compare<L: Ledger>(
 fn hear<L: Ledger>(
     front: &mut Front,
     counter: u16,
-    data: &[u8],
+    data: &[u8; 64],
     steps: &mut Steps<L>,
 ) -> Option<Step> {
-    if front.last().unwrap_or(0) >= 1 << 60 || data.len() > 64 {
+    if front.last().unwrap_or(0) >= 1 << 60 {
         return None;
     }
-    let a = Asdu {
-        sv_id: b"MU01",
-        counter,
-        conf_rev: 1,
-        synch: 2,
-        samples: data,
-    };
-    Some(front.take(&a, steps))
+    Some(front.take(&sample_set(b"MU01", counter, data), steps))
 }
 
 /// Over the end of a second, with a bad sample, a repeated one and a gap.
@@ -200,11 +191,8 @@ fn sums_anew_agree_with_the_front(rt: HostRuntime) -> Result<(), Fail> {
     let plain = compare::<Brand>(alloc, SETTINGS.as_bytes(), None, &SPANS, Blank::new(1))?;
     assert_eq!(rt; plain.ready, 155 + 54 + 102);
     assert_eq!(rt; plain.differ, 0);
-    let text = settings_with(
-        alloc,
-        "[line.goose]",
-        "[line.mimic]\na = 2048\nb = 1024\n\n[line.goose]",
-    )?;
+    let mimic = "[line.mimic]\na = 2048\nb = 1024\n\n[line.goose]";
+    let text = settings_of(alloc, "", &[("[line.goose]", mimic)])?;
     let mimic = Some(Mimic { a: 2048, b: 1024 });
     let filtered = compare::<Brand>(alloc, text.as_bytes(), mimic, &SPANS, Blank::new(1))?;
     assert_eq!(rt; filtered.ready, 154 + 53 + 101);

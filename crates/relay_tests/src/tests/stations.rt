@@ -1,18 +1,15 @@
 //! Two lines in one capture: what each tells is what it would tell alone.
-ghost use Rattle.std.specs.Prelude.{◌≡◌};
-
-use super::captures::{LITTLE_MICROS, replayed};
-use super::inputs::{
-    SAMPLE_FRAME, SINGLE, put_record, replay_words, room_of, settings_with, words_of,
-};
+use super::runs::{DONE, Outcome, REPLAY, given, run, run_to};
 use super::sent::{part_of, sent_of};
-use super::settings::{GO_ID, ZONE};
-use super::signals::{Signal, Span, put_both, signals_of};
 use super::zones::{Run, expect_runs};
 use drill::drill_text;
-use relay_tool::relay;
 use room_io::{MemRoom, Slot};
+use row_inputs::{
+    LITTLE_MICROS, PAIR, SAMPLE_FRAME, SINGLE, Signal, Span, ZONE, data_of, head_of, put_record,
+    put_set, settings_of, signals_of,
+};
 use std::alloc::{AllocError, Global};
+use std::process::Abort;
 use std::test::Fail;
 
 /// The first line's ground fault; the second line stays healthy.
@@ -55,6 +52,29 @@ const FAULTED: [Run; 3] = [
 
 const HEALTHY: [Run; 2] = [(1, 0, 3, false, false, 0), (2, 95, 7, false, false, 0)];
 
+/// Where the last byte of the svID stands before the end of a sample set.
+const LAST_OF_NAME: usize = 80;
+
+/// Adds the record of a frame of the two units' sample sets with this counter, of MU01 and then of MU02, which is
+/// healthy.
+fn put_both(
+    alloc: Global,
+    capture: &mut Vec<u8>,
+    signal: Signal,
+    counter: u16,
+) -> Result<(), AllocError> {
+    let mut frame = head_of(alloc, &PAIR)?;
+    for each in [signal, Signal::Healthy] {
+        put_set(&mut frame, counter, &data_of(each, counter))?;
+    }
+    let at = frame.len().wrapping_sub(LAST_OF_NAME);
+    if at < frame.len() {
+        frame[at] = 0x32;
+    }
+    let captured = u32::try_from(frame.len()).unwrap_or(0);
+    put_record(capture, false, &frame, captured)
+}
+
 /// A capture of frames of both lines' sample sets, with or without a malformed one before that of the samples 1000:
 /// it says that it has two sample sets, and has one.
 fn both_of(alloc: Global, has_malformed: bool) -> Result<Vec<u8>, AllocError> {
@@ -82,27 +102,39 @@ fn file_of(alloc: Global, room: &MemRoom, reference: &[u8]) -> Result<Vec<u8>, A
     Ok(file)
 }
 
+/// Runs both lines: the log is this, the part of the first line is this, and the frames are those of both.
+fn run_both(
+    rt: &impl Abort,
+    alloc: Global,
+    capture: &[u8],
+    log: &str,
+    alone: &[u8],
+) -> Result<(), Fail> {
+    let left = run(alloc, &given(REPLAY, drill_text(), capture))?;
+    assert_eq!(rt; left.status, 0);
+    assert_eq!(rt; left.room.written(Slot::Log), log.as_bytes());
+    let part = part_of(alloc, left.room.written(Slot::Goose), b"P1/LLN0$GO$G1")?;
+    assert_eq!(rt; part.as_slice(), alone);
+    let first = file_of(alloc, &left.room, b"P1/LLN0$GO$G1")?;
+    expect_runs(rt, &sent_of(alloc, &first)?, &FAULTED);
+    let second = file_of(alloc, &left.room, b"P1/LLN0$GO$G2")?;
+    expect_runs(rt, &sent_of(alloc, &second)?, &HEALTHY);
+    let records = left.room.written(Slot::Goose).len().wrapping_add(24);
+    assert_eq!(rt; first.len().wrapping_add(second.len()), records);
+    Ok(())
+}
+
 #[test]
 fn a_line_beside_another_tells_what_it_tells_alone(rt: HostRuntime) -> Result<(), Fail> {
     let alloc = rt.alloc();
-    let settings = settings_with(alloc, GO_ID, ZONE)?;
-    let capture = signals_of(alloc, &LITTLE_MICROS, &SINGLE, &SPANS)?;
-    let (_, alone) = replayed(alloc, settings.as_bytes(), &capture, 65537)?;
-    assert_eq!(rt; alone.written(Slot::Log), FIRST_LINE.as_bytes());
-    let alone_part = part_of(alloc, alone.written(Slot::Goose), b"P1/LLN0$GO$G1")?;
+    let settings = settings_of(alloc, ZONE, &[])?;
+    let capture = signals_of(alloc, &SINGLE, &SPANS)?;
+    let alone = run(alloc, &given(REPLAY, &settings, &capture))?;
+    assert_eq!(rt; alone.room.written(Slot::Log), FIRST_LINE.as_bytes());
+    let part = part_of(alloc, alone.room.written(Slot::Goose), b"P1/LLN0$GO$G1")?;
     for (has_malformed, log) in [(false, BOTH), (true, WITH_MALFORMED)] {
         let capture = both_of(alloc, has_malformed)?;
-        let (status, room) = replayed(alloc, drill_text().as_bytes(), &capture, 65537)?;
-        assert_eq!(rt; status, 0);
-        assert_eq!(rt; room.written(Slot::Log), log.as_bytes());
-        let part = part_of(alloc, room.written(Slot::Goose), b"P1/LLN0$GO$G1")?;
-        assert_eq!(rt; part.as_slice(), alone_part.as_slice());
-        let first = file_of(alloc, &room, b"P1/LLN0$GO$G1")?;
-        expect_runs(&rt, &sent_of(alloc, &first)?, &FAULTED);
-        let second = file_of(alloc, &room, b"P1/LLN0$GO$G2")?;
-        expect_runs(&rt, &sent_of(alloc, &second)?, &HEALTHY);
-        let records = room.written(Slot::Goose).len().wrapping_add(24);
-        assert_eq!(rt; first.len().wrapping_add(second.len()), records);
+        run_both(&rt, alloc, &capture, log, &part)?;
     }
     Ok(())
 }
@@ -110,22 +142,19 @@ fn a_line_beside_another_tells_what_it_tells_alone(rt: HostRuntime) -> Result<()
 /// Two lines have no svID alike, so that a sample set has one owner at most.
 #[test]
 fn lines_share_no_sv_id(rt: HostRuntime) -> Result<(), Fail> {
-    let words = words_of(rt.alloc(), &["check", "s.toml"])?;
-    let mut room = room_of(rt.alloc(), drill_text().as_bytes(), &LITTLE_MICROS)?;
-    assert_eq!(rt; relay(rt.alloc(), &words, &mut room), 0);
-    assert_eq!(rt;
-        room.written(Slot::Answer),
-        b"ok 2 lines 2 zones\n".as_slice()
-    );
-    let alike = drill_text().replacen(rt.alloc(), "MU02", "MU01", 1)?;
-    let words = replay_words(rt.alloc())?;
-    let mut room = room_of(rt.alloc(), alike.as_bytes(), &LITTLE_MICROS)?;
-    assert_eq!(rt; relay(rt.alloc(), &words, &mut room), 2);
-    assert_eq!(rt;
-        room.written(Slot::Note),
-        b"settings refused 9 line.2.sv_id\n".as_slice()
-    );
-    assert_eq!(rt; room.written(Slot::Goose), b"".as_slice());
-    assert_eq!(rt; room.written(Slot::Log), b"".as_slice());
+    let alloc = rt.alloc();
+    let accepted = Outcome {
+        answer: "ok 2 lines 2 zones\n",
+        ..DONE
+    };
+    let check = given("check|s.toml", drill_text(), &LITTLE_MICROS);
+    run_to(&rt, alloc, &check, &accepted)?;
+    let alike = drill_text().replacen(alloc, "MU02", "MU01", 1)?;
+    let refused = Outcome {
+        status: 2,
+        note: "settings refused 9 line.2.sv_id\n",
+        ..DONE
+    };
+    run_to(&rt, alloc, &given(REPLAY, &alike, &LITTLE_MICROS), &refused)?;
     Ok(())
 }
