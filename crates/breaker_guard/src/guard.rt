@@ -68,6 +68,7 @@ impl LineElement for Guard {
 
     ghost most_steps = { 35 };
 
+    /// `NoMemory` comes only where the allocator has no room for cycles of samples and of voltages.
     fn new(
         alloc: Global,
         common: &Common,

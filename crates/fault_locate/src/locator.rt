@@ -74,6 +74,7 @@ impl LineElement for Locator {
 
     ghost most_steps = { 36 };
 
+    /// `NoMemory` comes only where the allocator has no room for cycles of samples, of voltages and of currents.
     fn new(
         alloc: Global,
         common: &Common,

@@ -73,6 +73,7 @@ impl LineElement for Backup {
 
     ghost most_steps = { 1 };
 
+    /// `NoMemory` comes only where the allocator has no room for a cycle of samples.
     fn new(
         alloc: Global,
         common: &Common,

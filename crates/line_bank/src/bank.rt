@@ -48,7 +48,8 @@ impl<E: LineElement> LineBank<E> {
     }
 
     /// Hands a sample set to the line that owns it, and answers that line's place and what it tells. None comes
-    /// exactly where no line has its svID. It is counted; fewer than 2^40 were before. No other line changes.
+    /// exactly where no line has its svID. It is counted; fewer than 2^40 were before. No other line changes, and it
+    /// takes no memory.
     pub fn hear<L: Ledger>(
         &mut self,
         a: &Asdu<'_>,

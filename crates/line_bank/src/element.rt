@@ -63,7 +63,8 @@ pub trait LineElement: Drop {
         ensures { (common : Common) (asked : Self.Asked) (line : PlainLine) (asdus : List PlainAsdu) →
             stands common asked line asdus self.now → result ≡ owns line (plain_asdu a.now) };
 
-    /// Takes the next sample set of the line, and answers what it tells. The last number has to be below 2^60.
+    /// Takes the next sample set of the line, and answers what it tells. The last number has to be below 2^60. It
+    /// takes no memory.
     fn take<L: Ledger>(&mut self, a: &Asdu<'_>, steps: &mut Steps<L>) -> Self::Told
         requires { ForSome (last self.old) (λ number. number < 2 ^ 60) }
         ensures grows { (most : ℕ) → ForSome (last self.old) (λ number. number ≤ most) → ForSome (last self.new) (λ number. number ≤ most + 4800) }
