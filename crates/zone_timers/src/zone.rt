@@ -1,5 +1,5 @@
 //! The runs of the loops, a zone at a time in eight lanes, of which the first six are used.
-ghost use Rattle.std.specs.Prelude.{ℕ, ◌≡◌, ◌+◌, ◌<◌, ◌≤◌, ◌==◌, if◌then◌else◌};
+ghost use Rattle.std.specs.Prelude.{ℕ, ◌≡◌, ◌+◌, ◌<◌, ◌≤◌, ◌==◌, if◌then◌else◌, ◌↔◌};
 ghost use Rattle.std.specs.Prelude.{All, min, slice_index, IsTrue, [], ◌∷◌};
 ghost use Rattle.loop_impedance.specs.Masks.{loop_mask, has_bit};
 ghost use Rattle.zone_timers.specs.Masks.{has_loop, zone_masks};
@@ -38,7 +38,7 @@ fn ended(runs: &[u32; 8], ends: &[u32; 8]) -> u8
 
 /// Whether no loop of any zone is inside.
 pub fn is_none(inside: &[u8; 5]) -> bool
-    ensures { IsTrue result → inside.now ≡ 0 ∷ 0 ∷ 0 ∷ 0 ∷ 0 ∷ [] }
+    ensures { IsTrue result ↔ (inside.now ≡ 0 ∷ 0 ∷ 0 ∷ 0 ∷ 0 ∷ []) }
 {
     let [first, second, third, fourth, fifth] = *inside;
     first == 0 && second == 0 && third == 0 && fourth == 0 && fifth == 0

@@ -37,12 +37,12 @@ returns-clause-after c ground_delays phase_delays takes stands =
 
 pub returns-then-is_none-clause-operated : goal.returns-then-is_none-clause-operated
 returns-then-is_none-clause-operated c ground_delays phase_delays takes stands =
-    still_masks ground_delays phase_delays c.args.inside.now takes (c.is_none.ensures c.if-is_none.true)
+    still_masks ground_delays phase_delays c.args.inside.now takes (c.is_none.ensures.0 c.if-is_none.true)
 
 pub returns-then-is_none-clause-after : goal.returns-then-is_none-clause-after
 returns-then-is_none-clause-after c ground_delays phase_delays takes stands =
     let cleared = c.clear.ensures ground_delays phase_delays takes stands in
     record {
       ends = cleared.ends;
-      runs = λ zone lp z l. cleared.runs zone lp z l ∙ still_run c.args.inside.now takes zone lp (delay_of ground_delays phase_delays zone lp + 1) (c.is_none.ensures c.if-is_none.true) z l;
+      runs = λ zone lp z l. cleared.runs zone lp z l ∙ still_run c.args.inside.now takes zone lp (delay_of ground_delays phase_delays zone lp + 1) (c.is_none.ensures.0 c.if-is_none.true) z l;
     }
