@@ -20,6 +20,11 @@ module _ (rate last counter : ℕ) (big : 65 < rate) (low : counter < rate) wher
   unfoldable pub distance : ℕ
   distance = (counter + rate - last % rate) % rate
 
+  -- the same, by the counter of the last number
+  pub distance_by : (before d : ℕ) → last % rate ≡ before → d ≡ (counter + rate - before) % rate → d ≡ distance
+  unfolding distance
+  distance_by before d e is = is ∙ ap (λ b. (counter + rate - b) % rate) (sym e)
+
   phase-lt : last % rate < rate
   phase-lt = omega arith
 
@@ -80,23 +85,6 @@ module _ (rate last counter : ℕ) (big : 65 < rate) (low : counter < rate) wher
         elim side [ above m d ↦ omega (arith, phase-lt) | below m d ↦ ne (omega (arith, phase-lt)) ])
   ])
 
-  -- the counter that follows is one ahead, and no other is
-  pub follows : (last + 1) % rate ≡ counter → distance ≡ 1
-  follows e =
-      let q : (last % rate + 1) % rate ≡ counter = mod-add-mod last rate 1 ∙ e in
-      elim (cases_lt (last % rate + 1) rate) [
-        | inl l ↦ (let p : last % rate + 1 ≡ counter = sym (mod_below (last % rate + 1) rate l) ∙ q in
-            elim side [ above m d ↦ omega (arith, phase-lt) | below m d ↦ absurd (omega (arith, phase-lt)) ])
-        | inr l ↦ (let p : last % rate + 1 - rate ≡ counter = sym (mod_above (last % rate + 1) rate l (omega (arith, phase-lt))) ∙ q in
-            elim side [ above m d ↦ absurd (omega (arith, phase-lt)) | below m d ↦ omega (arith, phase-lt) ])
-      ]
-
-  pub one_follows : distance ≡ 1 → (last + 1) % rate ≡ counter
-  one_follows e =
-      let on : last + 1 + 0 ≡ last + 1 = omega arith in
-      let q : is_congruent rate (last + 1 + 0) counter ≡ true = ahead_at 0 (omega arith) e in
-      ap (λ x. x % rate) (sym on) ∙ eqb-true ((last + 1 + 0) % rate) (counter % rate) q ∙ mod_below counter rate low
-
   none_behind : 0 < distance → distance + 64 < rate → any_below 64 (λ b. is_congruent rate (counter + (b + 1)) last) ≡ false
   none_behind pos far = any_below_none 64 (λ b. is_congruent rate (counter + (b + 1)) last)
       (λ b h. not_behind_at b h (λ e. omega arith) (λ e. omega arith))
@@ -130,6 +118,13 @@ module _ (rate last counter : ℕ) (big : 65 < rate) (low : counter < rate) wher
   is_taken pos far =
       cond-false _ _ _ (differs (λ e. omega arith)) ∙ cond-false _ _ _ (none_behind pos far) ∙ ap (taken_as last) (next_number_is pos far)
 
+  -- and so its counter is this one
+  pub congruent_at : 0 < distance → distance + 64 < rate → (last + distance) % rate ≡ counter
+  congruent_at pos far =
+      let on : last + 1 + (distance - 1) ≡ last + distance = omega arith in
+      let q = ahead_at (distance - 1) (omega arith) (omega arith) in
+      rw on at (eqb-true _ _ q) ∙ mod_below counter rate low
+
 pub taken_next : (last d : ℕ) → d ≡ 1 → taken_as last (last + d) ≡ Next (last + 1)
 taken_next last d e = rw e (cond-true _ _ _ (eq-eqb (last + 1) (last + 1) refl))
 
@@ -148,7 +143,7 @@ numbers_are_unique rate last counter big low no_repeat no_late =
       record {
         after = omega (arith, is);
         near = omega (arith, is);
-        congruent = rw is (congruent_at pos far);
+        congruent = rw is (congruent_at rate last counter big low pos far);
       },
       λ number next. is_only number next ∙ sym is,
     )
@@ -170,12 +165,6 @@ numbers_are_unique rate last counter big low no_repeat no_late =
       | inl far ↦ far
       | inr near ↦ absurd (no_late (rate - distance rate last counter big low) (omega (arith, distance-lt rate last counter big low)) (omega arith) (late near))
     ]
-
-    congruent_at : 0 < distance rate last counter big low → distance rate last counter big low + 64 < rate → (last + distance rate last counter big low) % rate ≡ counter
-    congruent_at pos far =
-        let on : last + 1 + (distance rate last counter big low - 1) ≡ last + distance rate last counter big low = omega arith in
-        let q = ahead_at rate last counter big low (distance rate last counter big low - 1) (omega arith) (omega arith) in
-        rw on at (eqb-true _ _ q) ∙ mod_below counter rate low
 
     is_only : (number : ℕ) → IsNextNumber rate last counter number → number ≡ last + distance rate last counter big low
     is_only number next =

@@ -53,10 +53,17 @@ abbrev pub outcomes : ℕ → List ℕ → List Taken
 outcomes rate [] = []
 outcomes rate (counter ∷ older) = outcome rate (last_number (outcomes rate older)) counter ∷ outcomes rate older
 
+-- the last number of a numberer, and its rate
+abbrev pub last_of : Numberer → Option ℕ
+last_of numberer = numberer.last
+
+abbrev pub rate_of : Numberer → ℕ
+rate_of numberer = numberer.rate
+
 -- the numberer after these counters
 pub record StandsFor (rate : ℕ) (counters : List ℕ) (numberer : Numberer) : Type 0 where
-  pub same_rate : numberer.rate ≡ rate
-  pub last : numberer.last ≡ last_number (outcomes rate counters)
+  pub same_rate : rate_of numberer ≡ rate
+  pub last : last_of numberer ≡ last_number (outcomes rate counters)
 
 -- how an outcome follows the last number
 abbrev pub Follows : Option ℕ → Taken → Type 0
