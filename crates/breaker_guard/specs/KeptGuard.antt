@@ -4,7 +4,7 @@ use Rattle.relay_settings.specs.declared.types.Common.{Common}
 use Rattle.relay_settings.specs.Settings.{PlainLine}
 use Rattle.sv_frame.specs.Asdu.{PlainAsdu}
 use Rattle.line_relay.specs.Outcomes.{taken_samples}
-use Rattle.line_relay.specs.Fronts.{StandsFor as FrontStandsFor}
+use Rattle.line_relay.specs.Fronts.{last_of as last_of_front, StandsFor as FrontStandsFor}
 use Rattle.line_relay.specs.KeptLine.{last_of as last_of_line, StandsFor as LineStandsFor}
 use Rattle.breaker_guard.specs.declared.waits.GuardTimes.{GuardTimes}
 use Rattle.breaker_guard.specs.declared.guard.Guard.{Guard}
@@ -17,7 +17,7 @@ abbrev pub line_last : Guard → Option ℕ
 line_last guard = last_of_line guard.line
 
 abbrev pub front_last : Guard → Option ℕ
-front_last guard = guard.front.numberer.last
+front_last guard = last_of_front guard.front
 
 pub record StandsFor (common : Common) (settings : PlainLine) (times : GuardTimes) (asdus : List PlainAsdu) (guard : Guard) : Type 0 where
   pub same_common : guard.common ≡ common

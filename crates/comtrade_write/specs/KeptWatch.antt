@@ -4,7 +4,7 @@ use Rattle.relay_settings.specs.declared.types.Common.{Common}
 use Rattle.relay_settings.specs.Settings.{PlainLine}
 use Rattle.sv_frame.specs.Asdu.{PlainAsdu}
 use Rattle.line_relay.specs.Outcomes.{taken_samples}
-use Rattle.line_relay.specs.Fronts.{StandsFor as FrontStandsFor}
+use Rattle.line_relay.specs.Fronts.{last_of as last_of_front, StandsFor as FrontStandsFor}
 use Rattle.line_relay.specs.KeptLine.{StandsFor as LineStandsFor}
 use Rattle.comtrade_write.specs.declared.watch.Watch.{Watch}
 use Rattle.comtrade_write.specs.Covered.{recorded}
@@ -12,7 +12,7 @@ use Rattle.comtrade_write.specs.KeptWindow.{StandsFor as WindowStandsFor}
 
 -- the last number that the front has taken
 abbrev pub front_last : Watch → Option ℕ
-front_last watch = watch.front.numberer.last
+front_last watch = last_of_front watch.front
 
 -- how many trips have begun
 abbrev pub trips_by : Watch → ℕ

@@ -5,7 +5,7 @@ use Rattle.relay_settings.specs.Settings.{PlainLine, plain_line}
 use Rattle.sv_frame.specs.Asdu.{PlainAsdu}
 use Rattle.line_relay.specs.Samples.{Numbered}
 use Rattle.line_relay.specs.Outcomes.{taken_samples}
-use Rattle.line_relay.specs.Fronts.{StandsFor as FrontStandsFor}
+use Rattle.line_relay.specs.Fronts.{last_of as last_of_front, StandsFor as FrontStandsFor}
 use Rattle.line_relay.specs.KeptLine.{last_of as last_of_line, StandsFor as LineStandsFor}
 use Rattle.fault_locate.specs.declared.lookback.Lookback.{Lookback}
 use Rattle.fault_locate.specs.declared.waiting.Waiting.{Waiting}
@@ -18,7 +18,7 @@ abbrev pub line_last : Locator → Option ℕ
 line_last locator = last_of_line locator.line
 
 abbrev pub front_last : Locator → Option ℕ
-front_last locator = locator.front.numberer.last
+front_last locator = last_of_front locator.front
 
 -- the lookback and the trip that waits, after these samples
 pub record HoldsFor (common : Common) (settings : PlainLine) (past : List Numbered) (kept : Lookback) (trip : Option Waiting) : Type 0 where

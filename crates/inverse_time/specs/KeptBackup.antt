@@ -5,7 +5,7 @@ use Rattle.relay_settings.specs.Settings.{PlainLine}
 use Rattle.sv_frame.specs.Asdu.{PlainAsdu}
 use Rattle.line_relay.specs.Samples.{Numbered}
 use Rattle.line_relay.specs.Outcomes.{taken_samples}
-use Rattle.line_relay.specs.Fronts.{StandsFor as FrontStandsFor}
+use Rattle.line_relay.specs.Fronts.{last_of as last_of_front, StandsFor as FrontStandsFor}
 use Rattle.inverse_time.specs.declared.curve.Dial.{Dial}
 use Rattle.inverse_time.specs.declared.element.Element.{Element}
 use Rattle.inverse_time.specs.declared.backup.Backup.{Backup}
@@ -14,7 +14,7 @@ use Rattle.inverse_time.specs.KeptElement.{StandsFor as ElementStandsFor}
 
 -- the last number that was taken
 abbrev pub last_of : Backup → Option ℕ
-last_of backup = backup.front.numberer.last
+last_of backup = last_of_front backup.front
 
 -- the three elements after these samples
 pub record HoldsFor (common : Common) (settings : PlainLine) (dial : Dial) (past : List Numbered) (a b c : Element) : Type 0 where

@@ -31,12 +31,12 @@ use Rattle.line_relay.specs.Guards.{is_ready_at, measured_at}
 use Rattle.line_relay.specs.Operate.{ground_delays, phase_delays, trips_at, is_dead_at}
 use Rattle.line_relay.specs.Facts.{facts_of, inside_at}
 use Rattle.line_relay.specs.Points.{points_take}
-use Rattle.line_relay.specs.Fronts.{StandsFor as FrontStandsFor}
+use Rattle.line_relay.specs.Fronts.{last_of as last_of_front, StandsFor as FrontStandsFor}
 use Rattle.line_relay.specs.KeptGuards.{volt_take, swing_take, fuse_take, SwingStandsFor, FuseStandsFor}
 
 -- the last number that was taken
 abbrev pub last_of : Line → Option ℕ
-last_of line = line.front.numberer.last
+last_of line = last_of_front line.front
 
 abbrev pub name_of : Line → List ℕ
 name_of line = line.settings.name.items

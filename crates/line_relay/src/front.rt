@@ -100,7 +100,7 @@ impl Front {
     ghost use Rattle.sv_frame.specs.Asdu.{PlainAsdu, plain_asdu};
     ghost use Rattle.line_relay.specs.Outcomes.{number_taken, taken_number};
     ghost use Rattle.line_relay.specs.Steps.{step_of};
-    ghost use Rattle.line_relay.specs.Fronts.{StandsFor};
+    ghost use Rattle.line_relay.specs.Fronts.{StandsFor, last_of};
 
     /// A front that has taken nothing. `NoMemory` comes only where the allocator has no room for a cycle
     /// of samples; nothing is made then.
@@ -108,7 +108,7 @@ impl Front {
         requires common { IsCommon common.now }
         requires settings { IsLine s.now }
         ensures stands { IfOk result (λ front. StandsFor common.now (plain_line s.now) [] front) }
-        ensures none { IfOk result (λ front. front.numberer.last ≡ None) }
+        ensures none { IfOk result (λ front. last_of front ≡ None) }
     {
         let ring = History::new(alloc, common.n as usize)?;
         Ok(Front {
@@ -129,14 +129,14 @@ impl Front {
     /// samples, formed anew. It takes no memory, and looks at the window at most once.
     #[inline(always)]
     pub fn take<L: Ledger>(&mut self, a: &Asdu<'_>, steps: &mut Steps<L>) -> Step
-        requires { ForSome self.old.numberer.last (λ last. last < 2 ^ 60) }
-        ensures grows { (most : ℕ) → ForSome self.old.numberer.last (λ last. last ≤ most) → ForSome self.new.numberer.last (λ last. last ≤ most + 4800) }
+        requires { ForSome (last_of self.old) (λ last. last < 2 ^ 60) }
+        ensures grows { (most : ℕ) → ForSome (last_of self.old) (λ last. last ≤ most) → ForSome (last_of self.new) (λ last. last ≤ most + 4800) }
         // By the sample sets before: for each list of them that the front stands for.
         ensures step { (common : Common) (settings : PlainLine) (asdus : List PlainAsdu) → StandsFor common settings asdus self.old →
             result ≡ step_of common settings (plain_asdu a.now) asdus }
         ensures after { (common : Common) (settings : PlainLine) (asdus : List PlainAsdu) → StandsFor common settings asdus self.old →
             StandsFor common settings (plain_asdu a.now ∷ asdus) self.new }
-        ensures taken { ForSome (number_taken result.outcome) (λ number. self.new.numberer.last ≡ Some number) }
+        ensures taken { ForSome (number_taken result.outcome) (λ number. last_of self.new ≡ Some number) }
         ensures small { ForSome result.phasors (λ phasors. All (λ p. IsBelow p (2 ^ 30 + 1)) phasors) }
         ensures cost { steps.new ≤ steps.old + 1 }
     {
@@ -176,7 +176,7 @@ impl Front {
 
     /// The last number that was taken. `None` comes exactly where no sample was.
     pub fn last(&self) -> Option<u64>
-        ensures field { result ≡ self.now.numberer.last }
+        ensures field { result ≡ last_of self.now }
         ensures last { (common : Common) (settings : PlainLine) (asdus : List PlainAsdu) → StandsFor common settings asdus self.now →
             result ≡ taken_number common settings asdus }
     {
