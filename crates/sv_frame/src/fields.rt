@@ -4,6 +4,7 @@ ghost use Rattle.std.specs.Option.{option_map, ForSome};
 ghost use Rattle.sv_frame.specs.Gathering.{of_size};
 
 use crate::lent::Asdu;
+use crate::tags;
 use byteorder::{BigEndian, ByteOrder};
 
 /// The required fields that came so far, and the least known tag that may still come.
@@ -43,7 +44,7 @@ impl<'a> Fields<'a> {
         ensures { plain_fields result ≡ nothing_gathered }
     {
         Fields {
-            low: 0x80,
+            low: tags::FIRST_FIELD,
             sv_id: None,
             counter: None,
             conf_rev: None,
@@ -60,11 +61,11 @@ impl<'a> Fields<'a> {
     {
         self.low = tag + 1;
         match tag {
-            0x80 => self.sv_id = Some(contents),
-            0x82 => self.counter = Some(contents),
-            0x83 => self.conf_rev = Some(contents),
-            0x85 => self.synch = Some(contents),
-            0x87 => self.samples = Some(contents),
+            tags::SV_ID => self.sv_id = Some(contents),
+            tags::COUNTER => self.counter = Some(contents),
+            tags::CONF_REV => self.conf_rev = Some(contents),
+            tags::SYNCH => self.synch = Some(contents),
+            tags::SAMPLES => self.samples = Some(contents),
             _ => {}
         }
     }
@@ -75,7 +76,7 @@ impl<'a> Fields<'a> {
         requires { length contents.now ≤ 2048 }
         ensures { with_field (element tag contents.now) (plain_fields self.old) ≡ (if result then Some (plain_fields self.new) else None) }
     {
-        if tag > 0x89 {
+        if tag > tags::LAST_FIELD {
             return true;
         }
         if tag < self.low {
