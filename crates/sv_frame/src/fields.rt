@@ -37,6 +37,7 @@ impl<'a> Fields<'a> {
     ghost use Rattle.ber_fields.specs.Element.{element};
     ghost use Rattle.sv_frame.specs.Asdu.{plain_asdu};
     ghost use Rattle.sv_frame.specs.Gathering.{nothing_gathered, joined, with_field, asdu_by};
+    ghost use Rattle.sv_frame.specs.Tags.{last_field};
     ghost use Rattle.sv_frame.specs.Views.{plain_fields};
 
     /// Before the first field.
@@ -55,7 +56,7 @@ impl<'a> Fields<'a> {
 
     /// Keeps a field whose tag is known.
     fn join(&mut self, tag: u8, contents: &'a [u8])
-        requires tag { tag ≤ 0x89 }
+        requires tag { tag ≤ last_field }
         requires small { length contents.now ≤ 2048 }
         ensures { plain_fields self.new ≡ joined (element tag contents.now) (plain_fields self.old) }
     {
@@ -70,8 +71,8 @@ impl<'a> Fields<'a> {
         }
     }
 
-    /// Takes one more field. `false` comes exactly where its tag is one that an ASDU knows, 0x80 to
-    /// 0x89, and isn't above those before.
+    /// Takes one more field. `false` comes exactly where its tag is one that an ASDU knows and isn't above those
+    /// before.
     pub(crate) fn add(&mut self, tag: u8, contents: &'a [u8]) -> bool
         requires { length contents.now ≤ 2048 }
         ensures { with_field (element tag contents.now) (plain_fields self.old) ≡ (if result then Some (plain_fields self.new) else None) }
