@@ -1,3 +1,5 @@
+//! Captures in both byte orders, their records and blocks up to the end or the fault that stops them, however reads are
+//! cut, and the bytes that are written of a capture.
 ghost use Rattle.std.specs.Prelude.{◌^◌, ◌<◌, ◌≤◌};
 
 mod blocks;

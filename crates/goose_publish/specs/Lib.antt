@@ -1,3 +1,4 @@
+pub mod Tags
 pub mod Offsets
 pub mod Publishing
 pub mod Sends

@@ -5,6 +5,7 @@ ghost use Rattle.goose_publish.specs.Frame.{time_bytes, values_bytes, fields_byt
 
 use crate::points::{Points, Send};
 use crate::put::{boolean, head, number, quality, text, word};
+use crate::tags;
 use arrayvec::ArrayVec;
 use relay_num::put_bytes;
 use relay_settings::{Common, GooseSettings};
@@ -31,15 +32,15 @@ fn values(points: &Points) -> ArrayVec<u8, 1024>
     ensures long { length result.items ≤ 41 }
 {
     let mut out = ArrayVec::new();
-    boolean(&mut out, 0x83, points.trip);
+    boolean(&mut out, tags::BOOLEAN, points.trip);
     quality(&mut out, points.ready | points.trip);
-    boolean(&mut out, 0x83, points.start);
+    boolean(&mut out, tags::BOOLEAN, points.start);
     quality(&mut out, points.ready);
-    boolean(&mut out, 0x83, points.swing);
+    boolean(&mut out, tags::BOOLEAN, points.swing);
     quality(&mut out, points.ready);
-    boolean(&mut out, 0x83, points.fuse);
+    boolean(&mut out, tags::BOOLEAN, points.fuse);
     quality(&mut out, points.ready);
-    number(&mut out, 0x86, u32::from(points.zones));
+    number(&mut out, tags::UNSIGNED, u32::from(points.zones));
     out
 }
 
@@ -51,19 +52,19 @@ fn fields(common: &Common, goose: &GooseSettings, send: &Send) -> ArrayVec<u8, 1
     ensures long { length result.items ≤ 600 }
 {
     let mut out = ArrayVec::new();
-    text(&mut out, 0x80, goose.gocb_ref.as_slice());
-    number(&mut out, 0x81, send.live_ms);
-    text(&mut out, 0x82, goose.dat_set.as_slice());
-    text(&mut out, 0x83, goose.go_id.as_slice());
-    text(&mut out, 0x84, &time_bytes(common, send.change));
-    number(&mut out, 0x85, send.state);
-    number(&mut out, 0x86, send.sequence);
-    boolean(&mut out, 0x87, false);
-    number(&mut out, 0x88, goose.conf_rev);
-    boolean(&mut out, 0x89, false);
-    number(&mut out, 0x8A, 9);
+    text(&mut out, tags::GOCB_REF, goose.gocb_ref.as_slice());
+    number(&mut out, tags::TIME_TO_LIVE, send.live_ms);
+    text(&mut out, tags::DAT_SET, goose.dat_set.as_slice());
+    text(&mut out, tags::GO_ID, goose.go_id.as_slice());
+    text(&mut out, tags::TIME, &time_bytes(common, send.change));
+    number(&mut out, tags::STATE_NUMBER, send.state);
+    number(&mut out, tags::SEQUENCE_NUMBER, send.sequence);
+    boolean(&mut out, tags::SIMULATION, false);
+    number(&mut out, tags::CONF_REV, goose.conf_rev);
+    boolean(&mut out, tags::NEEDS_COMMISSIONING, false);
+    number(&mut out, tags::ENTRY_COUNT, 9);
     let values = values(&send.points);
-    head(&mut out, 0xAB, values.len());
+    head(&mut out, tags::ALL_DATA, values.len());
     put_bytes(&mut out, values.as_slice());
     out
 }
@@ -81,15 +82,15 @@ pub fn frame_bytes(common: &Common, goose: &GooseSettings, send: &Send) -> Array
 {
     let fields = fields(common, goose, send);
     let mut pdu = ArrayVec::new();
-    head(&mut pdu, 0x61, fields.len());
+    head(&mut pdu, tags::GOOSE_PDU, fields.len());
     put_bytes(&mut pdu, fields.as_slice());
     let mut out = ArrayVec::new();
     put_bytes(&mut out, &goose.dst);
     put_bytes(&mut out, &goose.src);
-    word(&mut out, 0x8100);
+    word(&mut out, tags::VIRTUAL_NETWORK);
     let priority = u16::from(goose.vlan_priority);
     word(&mut out, priority * 8192 + goose.vlan_id);
-    word(&mut out, 0x88B8);
+    word(&mut out, tags::GOOSE);
     word(&mut out, goose.appid);
     word(&mut out, (pdu.len() + 8) as u16);
     word(&mut out, 0);

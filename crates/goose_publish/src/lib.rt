@@ -17,6 +17,7 @@ mod points;
 mod publisher;
 mod put;
 mod schedule;
+mod tags;
 #[cfg(test)]
 mod tests;
 

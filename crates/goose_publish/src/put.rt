@@ -4,6 +4,7 @@ ghost use Rattle.byteorder.specs.Endian.{big_bytes};
 ghost use Rattle.ber_fields.specs.Written.{field, head_text, shortest, truth};
 ghost use Rattle.goose_publish.specs.Frame.{quality_field};
 
+use crate::tags;
 use arrayvec::ArrayVec;
 use ber_fields::{put_bits, put_bool, put_head, put_text, put_unsigned};
 use relay_num::put_bytes;
@@ -61,5 +62,10 @@ pub fn quality(out: &mut ArrayVec<u8, 1024>, is_good: bool)
     ensures bytes { out.new.items ≡ out.old.items ++ quality_field is_good }
     ensures long { length out.new.items ≡ length out.old.items + 5 }
 {
-    put_bits(out, 0x84, 3, &[if is_good { 0 } else { 0x40 }, 0]);
+    put_bits(
+        out,
+        tags::BIT_STRING,
+        3,
+        &[if is_good { 0 } else { 0x40 }, 0],
+    );
 }

@@ -4,6 +4,7 @@ use Rattle.byteorder.specs.Endian.{big_number}
 use Rattle.ber_fields.specs.Element.{Element, ◌>>=◌}
 use Rattle.sv_frame.specs.declared.lent.Asdu.{Asdu}
 use Rattle.sv_frame.specs.Elements.{elements}
+use Rattle.sv_frame.specs.Tags as tags
 
 -- one ASDU, wherever it lies in the frame
 pub record PlainAsdu : Type 0 where
@@ -20,9 +21,9 @@ plain_asdu asdu = record { sv_id = asdu.sv_id.now; counter = asdu.counter; conf_
 abbrev pub plain_asdus : List Asdu → List PlainAsdu
 plain_asdus asdus = map plain_asdu asdus
 
--- the fields with the tags of an ASDU, 0x80 to 0x89, wherever others stand
+-- the fields with the tags that an ASDU knows, wherever others stand
 abbrev pub known : List Element → List Element
-known fields = filter (λ f. nat_le f.tag 0x89) fields
+known fields = filter (λ f. nat_le f.tag tags.last_field) fields
 
 -- the tags are at least `low`, and each is above the one before
 abbrev pub is_rising : ℕ → List Element → Bool
@@ -40,15 +41,15 @@ sized size tag fields = do
   bytes ← contents_of tag fields
   if length bytes == size then Some bytes else None
 
--- The required fields say it: svID 0x80, smpCnt 0x82, confRev 0x83, smpSynch 0x85 and the sample data 0x87. The others are passed over.
+-- The required fields say it: svID, smpCnt, confRev, smpSynch and the sample data. The others are passed over.
 unfoldable pub asdu_from : List Element → Option PlainAsdu
-asdu_from fields = if is_rising 0x80 (known fields)
+asdu_from fields = if is_rising tags.first_field (known fields)
     then (do
-      sv_id ← contents_of 0x80 fields
-      counter ← sized 2 0x82 fields
-      conf_rev ← sized 4 0x83 fields
-      synch ← sized 1 0x85 fields
-      samples ← contents_of 0x87 fields
+      sv_id ← contents_of tags.sv_id fields
+      counter ← sized 2 tags.counter fields
+      conf_rev ← sized 4 tags.conf_rev fields
+      synch ← sized 1 tags.synch fields
+      samples ← contents_of tags.samples fields
       Some (record { sv_id = sv_id; counter = big_number 2 counter; conf_rev = big_number 4 conf_rev; synch = big_number 1 synch; samples = samples }))
     else None
 

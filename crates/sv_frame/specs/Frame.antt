@@ -3,6 +3,7 @@ use Rattle.std.specs.Prelude.{ℕ, ◌+◌, ◌-◌, Bool, ◌==◌, ◌&&◌, �
 use Rattle.byteorder.specs.Endian.{big_number}
 use Rattle.sv_frame.specs.declared.Reason.{Reason}
 use Rattle.sv_frame.specs.declared.Reason.TheVariants as reasons
+use Rattle.sv_frame.specs.Tags as tags
 use Rattle.sv_frame.specs.Pdu.{pdu_of, texts_of}
 use Rattle.sv_frame.specs.Asdu.{PlainAsdu, asdus_of}
 
@@ -29,11 +30,13 @@ begins kind bytes = nat_le 2 (length bytes) && (big_number 2 bytes == kind)
 
 -- without a tag of a virtual network
 abbrev pub untagged : List ℕ → List ℕ
-untagged bytes = if begins 0x8100 bytes then drop 4 bytes else bytes
+untagged bytes = if begins tags.virtual_network bytes then drop 4 bytes else bytes
 
 -- the bytes behind the EtherType of sampled values
 abbrev pub payload_of : List ℕ → Option (List ℕ)
-payload_of frame = let typed = untagged (drop 12 frame) in if begins 0x88ba typed then Some (drop 2 typed) else None
+payload_of frame =
+    let typed = untagged (drop 12 frame) in
+    if begins tags.sampled_values typed then Some (drop 2 typed) else None
 
 -- The bytes behind the four words in front. The second counts them all, and `before` bytes stand before the first.
 abbrev pub apdu_of : ℕ → ℕ → List ℕ → Result (List ℕ) Reason

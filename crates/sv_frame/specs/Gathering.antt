@@ -3,6 +3,7 @@ use Rattle.std.specs.Prelude.{ℕ, ◌+◌, ◌==◌, nat_le, if◌then◌else�
 use Rattle.byteorder.specs.Endian.{big_number}
 use Rattle.ber_fields.specs.Element.{Element, ◌>>=◌}
 use Rattle.sv_frame.specs.Asdu.{PlainAsdu}
+use Rattle.sv_frame.specs.Tags as tags
 
 -- the least known tag that may still come, and the contents of the required fields that came
 pub record Gathered : Type 0 where
@@ -14,7 +15,8 @@ pub record Gathered : Type 0 where
   pub samples : Option (List ℕ)
 
 abbrev pub nothing_gathered : Gathered
-nothing_gathered = record { low = 0x80; sv_id = None; counter = None; conf_rev = None; synch = None; samples = None }
+nothing_gathered =
+    record { low = tags.first_field; sv_id = None; counter = None; conf_rev = None; synch = None; samples = None }
 
 -- the contents of this tag, with one more field
 abbrev pub newer : ℕ → Element → Option (List ℕ) → Option (List ℕ)
@@ -24,17 +26,17 @@ newer tag e before = if e.tag == tag then Some e.contents else before
 abbrev pub joined : Element → Gathered → Gathered
 joined e g = record {
   low = e.tag + 1;
-  sv_id = newer 0x80 e g.sv_id;
-  counter = newer 0x82 e g.counter;
-  conf_rev = newer 0x83 e g.conf_rev;
-  synch = newer 0x85 e g.synch;
-  samples = newer 0x87 e g.samples;
+  sv_id = newer tags.sv_id e g.sv_id;
+  counter = newer tags.counter e g.counter;
+  conf_rev = newer tags.conf_rev e g.conf_rev;
+  synch = newer tags.synch e g.synch;
+  samples = newer tags.samples e g.samples;
 }
 
 -- One field more: a known one has to be above those before, and others are passed over.
 abbrev pub with_field : Element → Gathered → Option Gathered
 with_field e g =
-    if nat_le e.tag 0x89 then (if nat_le g.low e.tag then Some (joined e g) else None)
+    if nat_le e.tag tags.last_field then (if nat_le g.low e.tag then Some (joined e g) else None)
     else Some g
 
 -- contents of this length

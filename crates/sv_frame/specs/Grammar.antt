@@ -4,6 +4,7 @@ use Rattle.std.specs.List.{AllByRecursion}
 use Rattle.byteorder.specs.Endian.{big_number}
 use Rattle.ber_fields.specs.Element.{Element, element}
 use Rattle.sv_frame.specs.Elements.{SpellAll}
+use Rattle.sv_frame.specs.Tags as tags
 use Rattle.sv_frame.specs.Asdu.{PlainAsdu, known, is_rising}
 use Rattle.sv_frame.specs.Pdu.{Parts}
 use Rattle.sv_frame.specs.Frame.{payload_of, apdu_of}
@@ -17,14 +18,14 @@ Has (f ∷ fields) e = (f ≡ e) ⊎ Has fields e
 abbrev pub HasNumber : ℕ → ℕ → List Element → ℕ → Type 0
 HasNumber size tag fields n = (bytes : List ℕ) × Has fields (element tag bytes) × (length bytes ≡ size) × (n ≡ big_number size bytes)
 
--- The fields say this: those with known tags rise from 0x80 on, so each comes once, and the required ones are there.
+-- The fields say this: those with known tags rise from the least on, so each comes once, and the required ones are there.
 pub record FieldsSay (fields : List Element) (x : PlainAsdu) : Type 0 where
-  pub rises : is_rising 0x80 (known fields) ≡ true
-  pub sv_id : Has fields (element 0x80 x.sv_id)
-  pub counter : HasNumber 2 0x82 fields x.counter
-  pub conf_rev : HasNumber 4 0x83 fields x.conf_rev
-  pub synch : HasNumber 1 0x85 fields x.synch
-  pub samples : Has fields (element 0x87 x.samples)
+  pub rises : is_rising tags.first_field (known fields) ≡ true
+  pub sv_id : Has fields (element tags.sv_id x.sv_id)
+  pub counter : HasNumber 2 tags.counter fields x.counter
+  pub conf_rev : HasNumber 4 tags.conf_rev fields x.conf_rev
+  pub synch : HasNumber 1 tags.synch fields x.synch
+  pub samples : Has fields (element tags.samples x.samples)
 
 -- The bytes are at most 16 fields that say this.
 pub record IsAsdu (bytes : List ℕ) (x : PlainAsdu) : Type 0 where
@@ -43,13 +44,14 @@ AreAsdus (text ∷ texts) (x ∷ xs) = IsAsdu text.contents x × AreAsdus texts 
 pub record AreParts (fields : List Element) (parts : Parts) : Type 0 where
   pub least : 1 ≤ length parts.count
   pub most : length parts.count ≤ 4
-  pub are : (fields ≡ element 0x80 parts.count ∷ element 0xa2 parts.sequence ∷ [])
-      ⊎ ((security : List ℕ) × (fields ≡ element 0x80 parts.count ∷ element 0x81 security ∷ element 0xa2 parts.sequence ∷ []))
+  pub are : (fields ≡ element tags.asdu_count parts.count ∷ element tags.asdu_sequence parts.sequence ∷ [])
+      ⊎ ((security : List ℕ) × (fields ≡ element tags.asdu_count parts.count ∷ element tags.security security
+          ∷ element tags.asdu_sequence parts.sequence ∷ []))
 
 -- The bytes are one element, and what it holds are these parts.
 pub record IsPdu (apdu : List ℕ) (parts : Parts) : Type 0 where
   pub inner : List ℕ
-  pub whole : SpellAll apdu (element 0x60 inner ∷ [])
+  pub whole : SpellAll apdu (element tags.sav_pdu inner ∷ [])
   pub fields : List Element
   pub holds : SpellAll inner fields
   pub are_parts : AreParts fields parts
@@ -60,7 +62,7 @@ pub record IsSequence (parts : Parts) (texts : List Element) : Type 0 where
   pub least : 1 ≤ length texts
   pub most : length texts ≤ 16
   pub whole : SpellAll parts.sequence texts
-  pub tags : AllByRecursion (λ e. e.tag ≡ 0x30) texts
+  pub tags : AllByRecursion (λ e. e.tag ≡ tags.asdu) texts
 
 -- Six bytes for the destination, six for the source, maybe a tag of a virtual network, the EtherType, and the payload.
 pub record IsKind (frame payload : List ℕ) : Type 0 where

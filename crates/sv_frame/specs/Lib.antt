@@ -1,4 +1,5 @@
 pub mod Elements
+pub mod Tags
 pub mod Channels
 pub mod Asdu
 pub mod Pdu

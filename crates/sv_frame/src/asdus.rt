@@ -7,10 +7,10 @@ ghost use Rattle.sv_frame.specs.Answer.{seen};
 ghost use Rattle.sv_frame.specs.Asdu.{plain_asdu, plain_asdus, asdu_of};
 ghost use Rattle.sv_frame.specs.Sequence.{asdus_in_sequence};
 
-use crate::Reason;
 use crate::fields::Fields;
 use crate::lent::{Asdu, AsduSequence};
 use crate::usual::usual_asdu;
+use crate::{Reason, tags};
 use arrayvec::ArrayVec;
 use ber_fields::head;
 use relay_num::Steps;
@@ -64,7 +64,7 @@ fn asdus_of<'a, L: Ledger>(
         let Ok(text) = head(bytes, at, steps) else {
             return Err(Reason::Count);
         };
-        if text.tag != 0x30 {
+        if text.tag != tags::ASDU {
             return Err(Reason::Count);
         }
         at = text.end;
@@ -96,7 +96,7 @@ impl<'a> AsduSequence<'a> {
         let Ok(text) = head(self.bytes, 0, steps) else {
             return Err(Reason::Count);
         };
-        if text.tag != 0x30 {
+        if text.tag != tags::ASDU {
             return Err(Reason::Count);
         }
         if text.end < self.bytes.len() {

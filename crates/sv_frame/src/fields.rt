@@ -4,6 +4,7 @@ ghost use Rattle.std.specs.Option.{option_map, ForSome};
 ghost use Rattle.sv_frame.specs.Gathering.{of_size};
 
 use crate::lent::Asdu;
+use crate::tags;
 use byteorder::{BigEndian, ByteOrder};
 
 /// The required fields that came so far, and the least known tag that may still come.
@@ -36,6 +37,7 @@ impl<'a> Fields<'a> {
     ghost use Rattle.ber_fields.specs.Element.{element};
     ghost use Rattle.sv_frame.specs.Asdu.{plain_asdu};
     ghost use Rattle.sv_frame.specs.Gathering.{nothing_gathered, joined, with_field, asdu_by};
+    ghost use Rattle.sv_frame.specs.Tags.{last_field};
     ghost use Rattle.sv_frame.specs.Views.{plain_fields};
 
     /// Before the first field.
@@ -43,7 +45,7 @@ impl<'a> Fields<'a> {
         ensures { plain_fields result ≡ nothing_gathered }
     {
         Fields {
-            low: 0x80,
+            low: tags::FIRST_FIELD,
             sv_id: None,
             counter: None,
             conf_rev: None,
@@ -54,28 +56,28 @@ impl<'a> Fields<'a> {
 
     /// Keeps a field whose tag is known.
     fn join(&mut self, tag: u8, contents: &'a [u8])
-        requires tag { tag ≤ 0x89 }
+        requires tag { tag ≤ last_field }
         requires small { length contents.now ≤ 2048 }
         ensures { plain_fields self.new ≡ joined (element tag contents.now) (plain_fields self.old) }
     {
         self.low = tag + 1;
         match tag {
-            0x80 => self.sv_id = Some(contents),
-            0x82 => self.counter = Some(contents),
-            0x83 => self.conf_rev = Some(contents),
-            0x85 => self.synch = Some(contents),
-            0x87 => self.samples = Some(contents),
+            tags::SV_ID => self.sv_id = Some(contents),
+            tags::COUNTER => self.counter = Some(contents),
+            tags::CONF_REV => self.conf_rev = Some(contents),
+            tags::SYNCH => self.synch = Some(contents),
+            tags::SAMPLES => self.samples = Some(contents),
             _ => {}
         }
     }
 
-    /// Takes one more field. `false` comes exactly where its tag is one that an ASDU knows, 0x80 to
-    /// 0x89, and isn't above those before.
+    /// Takes one more field. `false` comes exactly where its tag is one that an ASDU knows and isn't above those
+    /// before.
     pub(crate) fn add(&mut self, tag: u8, contents: &'a [u8]) -> bool
         requires { length contents.now ≤ 2048 }
         ensures { with_field (element tag contents.now) (plain_fields self.old) ≡ (if result then Some (plain_fields self.new) else None) }
     {
-        if tag > 0x89 {
+        if tag > tags::LAST_FIELD {
             return true;
         }
         if tag < self.low {

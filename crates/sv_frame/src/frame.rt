@@ -7,9 +7,9 @@ ghost use Rattle.sv_frame.specs.Sequence.{asdus_in_parts};
 ghost use Rattle.sv_frame.specs.Views.{plain_parts, asdus_by};
 ghost use Rattle.sv_frame.specs.Answer.{seen};
 
-use crate::Reason;
 use crate::lent::{AsduSequence, Parts};
 use crate::pdu::pdu_of;
+use crate::{Reason, tags};
 use byteorder::{BigEndian, ByteOrder};
 use relay_num::Steps;
 use std::sync::ledger::Ledger;
@@ -29,7 +29,7 @@ fn untagged(bytes: &[u8]) -> &[u8]
     ensures exact { result.now ≡ untagged bytes.now }
     ensures size { length result.now ≤ length bytes.now }
 {
-    if !begins(bytes, 0x8100) {
+    if !begins(bytes, tags::VIRTUAL_NETWORK) {
         return bytes;
     }
     if bytes.len() < 4 {
@@ -47,7 +47,7 @@ pub(crate) fn payload_of(frame: &[u8]) -> Option<&[u8]>
         return None;
     }
     let typed = untagged(&frame[12..]);
-    if !begins(typed, 0x88ba) {
+    if !begins(typed, tags::SAMPLED_VALUES) {
         return None;
     }
     Some(&typed[2..])

@@ -21,6 +21,7 @@ mod frame;
 mod laws;
 mod lent;
 mod pdu;
+mod tags;
 mod usual;
 
 use arrayvec::ArrayVec;

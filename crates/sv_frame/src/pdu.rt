@@ -7,6 +7,7 @@ ghost use Rattle.sv_frame.specs.Enclosed.{only_in, parts_in};
 ghost use Rattle.sv_frame.specs.Views.{plain_parts};
 
 use crate::lent::Parts;
+use crate::tags;
 use crate::usual::usual_pdu;
 use ber_fields::{BerHead, head};
 use relay_num::Steps;
@@ -21,7 +22,11 @@ fn counted<'a>(bytes: &'a [u8], number: BerHead, sequence: BerHead) -> Option<Pa
     ensures size { IfSome result (λ parts. (0 < length parts.count.now) × (length parts.count.now ≤ 4)) }
 {
     let count = &bytes[number.start..number.end];
-    if number.tag != 0x80 || count.is_empty() || count.len() > 4 || sequence.tag != 0xa2 {
+    if number.tag != tags::ASDU_COUNT
+        || count.is_empty()
+        || count.len() > 4
+        || sequence.tag != tags::ASDU_SEQUENCE
+    {
         return None;
     }
     Some(Parts {
@@ -49,7 +54,7 @@ fn parts_in<'a, L: Ledger>(bytes: &'a [u8], steps: &mut Steps<L>) -> Option<Part
     let Ok(third) = head(bytes, second.end, steps) else {
         return None;
     };
-    if second.tag != 0x81 || third.end < bytes.len() {
+    if second.tag != tags::SECURITY || third.end < bytes.len() {
         return None;
     }
     counted(bytes, number, third)
@@ -82,6 +87,6 @@ pub(crate) fn pdu_of<'a, L: Ledger>(apdu: &'a [u8], steps: &mut Steps<L>) -> Opt
     if let Some(parts) = usual_pdu(apdu) {
         return Some(parts);
     }
-    let inner = only_in(0x60, apdu, steps)?;
+    let inner = only_in(tags::SAV_PDU, apdu, steps)?;
     parts_in(inner, steps)
 }

@@ -7,6 +7,7 @@ ghost use Rattle.sv_frame.specs.Pdu.{pdu_of};
 ghost use Rattle.sv_frame.specs.Views.{plain_parts};
 
 use crate::lent::{Asdu, Parts};
+use crate::tags;
 use ber_fields::BerHead;
 use byteorder::{BigEndian, ByteOrder};
 
@@ -54,18 +55,18 @@ pub(crate) fn usual_asdu<'a>(text: &'a [u8]) -> Option<Asdu<'a>>
     requires { length text.now ≤ 2048 }
     ensures { IfSome result (λ asdu. asdu_of text.now ≡ Some (plain_asdu asdu)) }
 {
-    let name = field_at(text, 0, 0x80)?;
+    let name = field_at(text, 0, tags::SV_ID)?;
     let at = name.end;
     if text.len() - at < 13 {
         return None;
     }
-    if !is_field(text, at, 0x82, 2)
-        || !is_field(text, at + 4, 0x83, 4)
-        || !is_field(text, at + 10, 0x85, 1)
+    if !is_field(text, at, tags::COUNTER, 2)
+        || !is_field(text, at + 4, tags::CONF_REV, 4)
+        || !is_field(text, at + 10, tags::SYNCH, 1)
     {
         return None;
     }
-    let samples = field_at(text, at + 13, 0x87)?;
+    let samples = field_at(text, at + 13, tags::SAMPLES)?;
     if samples.end != text.len() {
         return None;
     }
@@ -86,15 +87,15 @@ pub(crate) fn usual_pdu<'a>(apdu: &'a [u8]) -> Option<Parts<'a>>
     ensures exact { IfSome result (λ parts. pdu_of apdu.now ≡ Some (plain_parts parts)) }
     ensures size { IfSome result (λ parts. length parts.count.now ≡ 1) }
 {
-    let outer = field_at(apdu, 0, 0x60)?;
+    let outer = field_at(apdu, 0, tags::SAV_PDU)?;
     if outer.end != apdu.len() {
         return None;
     }
     let inner = &apdu[outer.start..outer.end];
-    if inner.len() < 3 || !is_field(inner, 0, 0x80, 1) {
+    if inner.len() < 3 || !is_field(inner, 0, tags::ASDU_COUNT, 1) {
         return None;
     }
-    let sequence = field_at(inner, 3, 0xa2)?;
+    let sequence = field_at(inner, 3, tags::ASDU_SEQUENCE)?;
     if sequence.end != inner.len() {
         return None;
     }

@@ -9,17 +9,17 @@ returns-in_default-clause-exact g c =
     let fewer : c.loop-left.left ≡ suc (c.loop-left.left - 1) = omega arith in
     sym (breaks _ _ (drop c.loop-left.at c.args.bytes.now) _ fewer c.in_default.ensures.exact) ∙ c.loop-left.invariant.read
 
-pub returns-then-text-ne48-clause-exact : goal.returns-then-text-ne48-clause-exact
-returns-then-text-ne48-clause-exact g c =
+pub returns-then-text-ne-ASDU-clause-exact : goal.returns-then-text-ne-ASDU-clause-exact
+returns-then-text-ne-ASDU-clause-exact g c =
     let fewer : c.loop-left.left ≡ suc (c.loop-left.left - 1) = omega arith in
-    sym (other_tag _ _ (drop c.loop-left.at c.args.bytes.now) _ _ _ fewer c.in-Ok.ensures.exact c.if-text-ne48.true) ∙ c.loop-left.invariant.read
+    sym (other_tag _ _ (drop c.loop-left.at c.args.bytes.now) _ _ _ fewer c.in-Ok.ensures.exact c.if-text-ne-ASDU.true) ∙ c.loop-left.invariant.read
 
 pub loop-left-preserved-in-Some : goal.loop-left-preserved-in-Some
 loop-left-preserved-in-Some g c =
     let fewer : c.loop-left.left ≡ suc (c.loop-left.left - 1) = omega arith in
     let len : length c.push.new.self.items ≡ length c.loop-left.found.items + 1 = omega arith in
     record {
-      read = rw (c.push.ensures.items, map_push) (goes_good _ _ (drop c.loop-left.at c.args.bytes.now) _ _ c.loop-left.whole (plain_asdus c.loop-left.found.items) (plain_asdu c.in-Some.asdu) _ fewer c.in-Ok.ensures.exact c.if-text-ne48.false (sym c.in-Some.ensures) c.loop-left.invariant.read);
+      read = rw (c.push.ensures.items, map_push) (goes_good _ _ (drop c.loop-left.at c.args.bytes.now) _ _ c.loop-left.whole (plain_asdus c.loop-left.found.items) (plain_asdu c.in-Some.asdu) _ fewer c.in-Ok.ensures.exact c.if-text-ne-ASDU.false (sym c.in-Some.ensures) c.loop-left.invariant.read);
       here = omega (arith, c.in-Ok.ensures.within);
       few = omega arith;
       all = λ is. omega (arith, c.loop-left.invariant.all is);
@@ -31,7 +31,7 @@ loop-left-preserved-in-Some-gathered_asdu g c =
     let fewer : c.loop-left.left ≡ suc (c.loop-left.left - 1) = omega arith in
     let len : length c.push-in-Some-gathered_asdu.new.self.items ≡ length c.loop-left.found.items + 1 = omega arith in
     record {
-      read = rw (c.push-in-Some-gathered_asdu.ensures.items, map_push) (goes_good _ _ (drop c.loop-left.at c.args.bytes.now) _ _ c.loop-left.whole (plain_asdus c.loop-left.found.items) (plain_asdu c.in-Some-gathered_asdu.asdu) _ fewer c.in-Ok.ensures.exact c.if-text-ne48.false c.in-Some-gathered_asdu.ensures.exact c.loop-left.invariant.read);
+      read = rw (c.push-in-Some-gathered_asdu.ensures.items, map_push) (goes_good _ _ (drop c.loop-left.at c.args.bytes.now) _ _ c.loop-left.whole (plain_asdus c.loop-left.found.items) (plain_asdu c.in-Some-gathered_asdu.asdu) _ fewer c.in-Ok.ensures.exact c.if-text-ne-ASDU.false c.in-Some-gathered_asdu.ensures.exact c.loop-left.invariant.read);
       here = omega (arith, c.in-Ok.ensures.within);
       few = omega arith;
       all = λ is. omega (arith, c.loop-left.invariant.all is);
@@ -42,7 +42,7 @@ pub loop-left-preserved : goal.loop-left-preserved
 loop-left-preserved g c =
     let fewer : c.loop-left.left ≡ suc (c.loop-left.left - 1) = omega arith in
     record {
-      read = goes_bad _ _ (drop c.loop-left.at c.args.bytes.now) _ _ c.loop-left.whole (plain_asdus c.loop-left.found.items) _ fewer c.in-Ok.ensures.exact c.if-text-ne48.false c.in-None-gathered_asdu.ensures.exact c.loop-left.invariant.read;
+      read = goes_bad _ _ (drop c.loop-left.at c.args.bytes.now) _ _ c.loop-left.whole (plain_asdus c.loop-left.found.items) _ fewer c.in-Ok.ensures.exact c.if-text-ne-ASDU.false c.in-None-gathered_asdu.ensures.exact c.loop-left.invariant.read;
       here = omega (arith, c.in-Ok.ensures.within);
       few = omega arith;
       all = λ is. absurd cc;
