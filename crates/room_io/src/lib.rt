@@ -10,8 +10,8 @@
 
 mod host;
 mod mem;
-mod parts;
-mod ports;
+mod mem_parts;
+mod mem_ports;
 mod room;
 
 pub use host::HostRoom;

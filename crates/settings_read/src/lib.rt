@@ -4,8 +4,9 @@
 //! walk, which tests each key in a fixed order, and answers the settings or the first refusal that it
 //! meets: a number from 1 to 12 and the path of the key. `specs/Accepted.antt` is that walk, with a
 //! module for each table of the file and a line for each key, in the words of `specs/Walk.antt`; each
-//! function here has the name of its definition. Stands on `relay_settings` for the types, `toml` for
-//! the tree, `jiff` for the calendar and `arrayvec` for short texts.
+//! function here has the name of its definition, and a type that is read of a table that may be missing
+//! names it as its `walk`. Stands on `relay_settings` for the types, `toml` for the tree, `jiff` for the
+//! calendar and `arrayvec` for short texts.
 #![tactic(auto)]
 
 mod error;
@@ -16,6 +17,7 @@ mod laws;
 mod line;
 mod lines;
 mod octets;
+mod optional;
 mod place;
 mod shape;
 mod start;

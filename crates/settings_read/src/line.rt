@@ -10,8 +10,8 @@ ghost use Rattle.settings_read.specs.LineTable.{name_of_word, line_keys, stream_
 
 use crate::goose::goose_of;
 use crate::keys::only;
+use crate::optional::optional_table;
 use crate::place::{Place, Refusal};
-use crate::tables::{fuse_of, load_of, mimic_of, swing_of};
 use crate::value::{optional_count, required_count, required_text, required_whole};
 use crate::version::Version;
 use crate::zones::zones_at;
@@ -166,10 +166,10 @@ fn guards_at(here: &Place) -> Result<Guards, Refusal>
     ensures value { seen (λ g. g) result ≡ guards_at (plain_place here.now) }
     ensures ranges { IfOk result IsGuards }
 {
-    let mimic = mimic_of(here)?;
-    let swing = swing_of(here)?;
-    let fuse = fuse_of(here)?;
-    let load = load_of(here)?;
+    let mimic = optional_table(here, "mimic")?;
+    let swing = optional_table(here, "swing")?;
+    let fuse = optional_table(here, "fuse")?;
+    let load = optional_table(here, "load")?;
     Ok(Guards {
         mimic,
         swing,

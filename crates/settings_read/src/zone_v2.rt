@@ -6,6 +6,7 @@ ghost use Rattle.settings_read.specs.Walk.{path, found, holds, only, optional_ta
 ghost use Rattle.settings_read.specs.ZoneTableV2.{mho_part_keys, quad_part_keys, part_at, zone_keys, zone_v2_at};
 
 use crate::keys::only;
+use crate::optional::{FromTable, optional_table};
 use crate::place::{Place, Refusal};
 use crate::shape::{dir_at, is_quad_at, shape_at};
 use crate::value::{required_boolean, required_count};
@@ -26,36 +27,18 @@ fn only_part_keys(here: &Place, is_quad: bool) -> Result<(), Refusal>
     }
 }
 
-#[tactic(auto, unfolding(crate::specs::ZoneTableV2::part_at))]
-fn part_at(here: &Place) -> Result<ZonePart, Refusal>
-    ensures value { seen (λ p. p) result ≡ part_at (plain_place here.now) }
-    ensures ranges { IfOk result IsZonePart }
-{
-    let is_quad = is_quad_at(here)?;
-    only_part_keys(here, is_quad)?;
-    let shape = shape_at(here, is_quad)?;
-    let delay_ms = required_count(here, "delay_ms", 0, 60_000)?;
-    Ok(ZonePart { shape, delay_ms })
-}
+impl FromTable for ZonePart {
+    ghost walk = { part_at };
 
-/// The table `ground` or `phase` of a zone.
-#[tactic(auto, unfolding(crate::specs::Walk::optional_table))]
-fn part_of(here: &Place, key: &str) -> Result<Option<ZonePart>, Refusal>
-    requires key { length key.now ≤ 8 }
-    requires room { length here.now.prefix.bytes ≤ 20 }
-    ensures value { seen (λ p. p) result ≡ optional_table part_at (plain_place here.now) key.now }
-    ensures ranges { IfOk result (λ p. IfSome p IsZonePart) }
-    ensures there { IfOk result (λ p. is_some p ≡ is_some (found (plain_place here.now) key.now)) }
-{
-    match here.get(key) {
-        None => Ok(None),
-        Some(value) => match value.as_table() {
-            None => Err(here.refuse(5, key)),
-            Some(table) => {
-                let part = part_at(&here.below(key, table))?;
-                Ok(Some(part))
-            }
-        },
+    ghost IsInRange = { IsZonePart };
+
+    #[tactic(auto, unfolding(crate::specs::ZoneTableV2::part_at))]
+    fn from_table(here: &Place) -> Result<ZonePart, Refusal> {
+        let is_quad = is_quad_at(here)?;
+        only_part_keys(here, is_quad)?;
+        let shape = shape_at(here, is_quad)?;
+        let delay_ms = required_count(here, "delay_ms", 0, 60_000)?;
+        Ok(ZonePart { shape, delay_ms })
     }
 }
 
@@ -100,8 +83,8 @@ pub(crate) fn zone_v2_at(here: &Place) -> Result<ZoneSettings, Refusal>
     let swing_block = required_boolean(here, "swing_block")?;
     let load_block = required_boolean(here, "load_block")?;
     some_part(here)?;
-    let ground = part_of(here, "ground")?;
-    let phase = part_of(here, "phase")?;
+    let ground = optional_table(here, "ground")?;
+    let phase = optional_table(here, "phase")?;
     Ok(ZoneSettings {
         ground,
         phase,
