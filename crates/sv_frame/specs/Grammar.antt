@@ -46,7 +46,7 @@ pub record AreParts (fields : List Element) (parts : Parts) : Type 0 where
   pub most : length parts.count ≤ 4
   pub are : (fields ≡ element tags.asdu_count parts.count ∷ element tags.asdu_sequence parts.sequence ∷ [])
       ⊎ ((security : List ℕ) × (fields ≡ element tags.asdu_count parts.count ∷ element tags.security security
-          ∷ element tags.asdu_sequence parts.sequence ∷ []))
+      ∷ element tags.asdu_sequence parts.sequence ∷ []))
 
 -- The bytes are one element, and what it holds are these parts.
 pub record IsPdu (apdu : List ℕ) (parts : Parts) : Type 0 where

@@ -15,7 +15,7 @@ pub record Parts : Type 0 where
 abbrev pub counted : Element → Element → Option Parts
 counted number sequence =
     if number.tag == tags.asdu_count && (nat_le 1 (length number.contents)
-        && (nat_le (length number.contents) 4 && (sequence.tag == tags.asdu_sequence)))
+    && (nat_le (length number.contents) 4 && (sequence.tag == tags.asdu_sequence)))
     then Some (record { count = number.contents; sequence = sequence.contents })
     else None
 
