@@ -12,7 +12,7 @@ use Rattle.relay_tool.specs.Endings.{Ending, status_of, done, not_capture, no_li
 use Rattle.relay_tool.specs.Words.{Asked, check, word}
 use Rattle.relay_tool.specs.Run.{Run, run_of, zones_in}
 use Rattle.relay_tool.specs.Files.{IsWritten, is_slot, IsNamedBy, AreReady, IsStarted}
-use Rattle.relay_tool.specs.Answers.{IsRecording}
+use Rattle.relay_tool.specs.Answers.{IsRecording, uses}
 use Rattle.relay_tool.specs.Making.{Puts}
 use Rattle.relay_tool.specs.Leaving.{Gives, EndsAs, Leaves}
 use Rattle.relay_tool.specs.declared.put.Failed.{Failed}
@@ -72,12 +72,13 @@ module _ (asked : Asked) (other : IsRecording (Some asked) → ⊥) {a b : RoomS
     unstarted = λ no. absurd (no refl);
   })
 
-  pub answer-fault : (failed : Failed) → Puts Answer text b d (Err failed) → Leaves (Some asked) a d (fault failed.slot)
-  answer-fault failed puts = subst (λ x. Leaves (Some asked) a d (fault x)) (sym puts.end.0) (ends puts.only puts.later (fault Answer) (
+  pub answer-fault : (failed : Failed) → IsTrue (uses (Some asked) Answer) → Puts Answer text b d (Err failed) → Leaves (Some asked) a d (fault failed.slot)
+  answer-fault failed used puts = subst (λ x. Leaves (Some asked) a d (fault x)) (sym puts.end.0) (ends puts.only puts.later (fault Answer) (
     (λ e. cc),
     record {
       other = λ e. cc;
       rose = (let h = read.stage.later Answer in let r : Rose b.answer.faults d.answer.faults = puts.end.1 in omega arith);
+      used = λ told. used;
       reached = λ told. unbegun (Some asked) Answer (run_of (Some asked) a.contents).writes (empty-still puts.only) (λ e. cc);
       answer = λ told.
           let p = puts.part (read.stage.tells ∙ told) in

@@ -117,6 +117,7 @@ module _ {mid new : RoomState} (only : OnlyAt Note mid new) where
   fails-new asked slot run old fails = record {
     other = fails.other;
     rose = subst (λ (s : SlotState). Rose (at old slot).faults s.faults) (sym (kept-at slot only (not-note slot fails.other))) fails.rose;
+    used = fails.used;
     reached = λ told. reaches-new asked slot run.writes (fails.reached told);
     answer = λ told. let a = fails.answer told in (a.0, ap (λ (s : SlotState). s.bytes) answer-new ∙ a.1);
     settings = λ e. alone-new (fails.settings e);

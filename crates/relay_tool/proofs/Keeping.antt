@@ -22,7 +22,7 @@ use Rattle.relay_tool.specs.Ends.{lacking_end}
 use Rattle.relay_tool.specs.Words.{RecordNames, recording, word}
 use Rattle.relay_tool.specs.Output.{Item, config_item, data_item, pair_items, heard}
 use Rattle.relay_tool.specs.Run.{Run, ended, refused_run, run_of, record_by, named_run, line_run, pair_run, line_named, lacking_at, content_of, ending_at, most_capture}
-use Rattle.relay_tool.specs.Answers.{OpensPair}
+use Rattle.relay_tool.specs.Answers.{uses, OpensPair}
 use Rattle.relay_tool.specs.Files.{IsWritten, IsWrittenFile, AreReady, Reaches, IsUnstarted, IsStarted, is_slot, written, front}
 use Rattle.relay_tool.specs.Making.{OnlyWrites, Appends, FailsIn}
 use Rattle.relay_tool.specs.Leaving.{Gives, Leaves}
@@ -35,7 +35,8 @@ use Rattle.relay_tool.specs.declared.put.Failed.{Failed}
 use Rattle.relay_tool.specs.declared.run.Stopped.{Stopped}
 use Rattle.relay_tool.specs.declared.run.Stopped.TheVariants as stopped
 use Rattle.relay_tool.proofs.Slots.{kept-at, same-slot, clash}
-use Rattle.relay_tool.proofs.Staging.{Staged, Laws, staged-at, staged-uses, written-file, nothing, unbegun, alone-unstarted}
+use Rattle.relay_tool.proofs.Placing.{in-after, in-pair}
+use Rattle.relay_tool.proofs.Staging.{Staged, Laws, staged-at, staged-uses, used-word, written-file, nothing, unbegun, alone-unstarted}
 use Rattle.relay_tool.proofs.Treating.{works-reads, apart}
 use Rattle.relay_tool.proofs.Replaying.{Read, leaves, answer-none}
 use Rattle.relay_tool.proofs.Pairing.{data_of-length}
@@ -175,6 +176,7 @@ module _ (names : RecordNames) where
     record {
       other = λ e. cc;
       rose = rose;
+      used = λ told. refl;
       reached = λ told. unbegun (Some (recording names)) Capture (run_of (Some (recording names)) a.contents).writes (nothing law none) (λ e. cc);
       answer = λ told. (0, answer-still unused stage told);
       settings = λ e. cc;
@@ -310,13 +312,14 @@ module _ (names : RecordNames) where
       run-pair told = told-run true (has told).enough told
 
       -- a call of an output failed
-      pair-fault : {x : RoomState} (slot : Slot) → Staged (Some (recording names)) a x → IsWrittenFile slot → Rose (at a slot).faults (at x slot).faults →
+      pair-fault : {x : RoomState} (slot : Slot) → Staged (Some (recording names)) a x → IsWrittenFile slot → Rose (at a slot).faults (at x slot).faults → (IsTrue a.tells → IsTrue (uses (Some (recording names)) slot)) →
           (IsTrue a.tells → Reaches (Some (recording names)) slot pair x) → Leaves (Some (recording names)) a x (fault slot)
-      pair-fault {x} slot stage file rose reached = leaves (recording names) (fault slot) stage (
+      pair-fault {x} slot stage file rose used reached = leaves (recording names) (fault slot) stage (
         (λ e. cc),
         record {
           other = λ e. streams (subst IsWrittenFile e file);
           rose = rose;
+          used = used;
           reached = λ told. subst (λ (r : Run). Reaches (Some (recording names)) slot r.writes x) (sym (run-pair told)) (reached told);
           answer = λ told. (0, answer-still at_stop.unused stage told);
           settings = λ e. absurd (streams-settings (subst IsWrittenFile e file));
@@ -352,6 +355,7 @@ module _ (names : RecordNames) where
           subst (λ y. Leaves (Some (recording names)) a x (fault y)) (sym opens.end.same)
           (pair-fault slot (staged-at (Some (recording names)) slot name (written-file slot file).0 is stage opens.only opens.named opens.later) file
           (let l = stage.later slot in let r : Rose (at d slot).faults (at x slot).faults = opens.end.rose in omega arith)
+          (λ told. used-word (Some (recording names)) slot name is)
           (λ told. unbegun (Some (recording names)) slot pair (still-empty slot name stage empty opens told) (λ _ ready. clash (sym (ready slot file (ap is_some is)) ∙ opens.end.shut))))
 
       pub config-fault : {x : RoomState} (failed : Failed) → OpensOutput Config names.config_file h x (Err failed) → Leaves (Some (recording names)) a x (fault failed.slot)
@@ -414,6 +418,9 @@ module _ (names : RecordNames) where
             pub write-fault : (failed : Failed) (some : List Item) → FailsIn failed.slot some y z → (IsTrue a.tells → FailsIn failed.slot pair y z) → Leaves (Some (recording names)) a z (fault failed.slot)
             write-fault failed some fails told_fails = pair-fault failed.slot stage_z fails.output
                 (let l = stage_y.later failed.slot in let r : Rose (at y failed.slot).faults (at z failed.slot).faults = fails.rose in omega arith)
+                (λ told.
+                let st = (told_fails told).stops (stage_y.tells ∙ told) in
+                in-after (uses (Some (recording names))) st.whole pair failed.slot (in-pair (uses (Some (recording names))) refl refl s.common line names.trip (heard [] f.bodies)) st.next)
                 (λ told.
                 let st = (told_fails told).stops (stage_y.tells ∙ told) in
                 record { whole = st.whole; part = st.part; written = written_z (front st.whole st.part pair) told st.appended; next = λ _ _. st.next })

@@ -1,4 +1,5 @@
 pub mod Slots
+pub mod Placing
 pub mod Parting
 pub mod Writing
 pub mod Hearing

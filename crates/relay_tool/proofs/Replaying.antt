@@ -15,9 +15,9 @@ use Rattle.settings_read.specs.Walk.{Refusal, refused as refusal}
 use Rattle.settings_read.specs.Accepted.{accepted}
 use Rattle.relay_tool.specs.Endings.{Ending, status_of, done, refused, not_capture, no_line, cut, damaged, too_long, fault, no_memory}
 use Rattle.relay_tool.specs.Words.{Names, StudyNames, Study, Asked, replay, check, drill, study, recording, word}
-use Rattle.relay_tool.specs.Output.{Item, out}
+use Rattle.relay_tool.specs.Output.{Item, heard_items, study_items, out}
 use Rattle.relay_tool.specs.Run.{Run, Job, replay_job, study_job, refused_run, run_of, job_by, job_run, records_run, content_of, ending_at, all_writes, most_capture}
-use Rattle.relay_tool.specs.Answers.{JobFault, CaptureFault, IsRecording, HasOpened}
+use Rattle.relay_tool.specs.Answers.{JobFault, CaptureFault, IsRecording, uses, HasOpened}
 use Rattle.relay_tool.specs.Files.{IsWritten, IsWrittenFile, AreReady, Reaches, IsUnstarted, HasSettingsAlone, IsStarted, is_slot, is_written, written, front}
 use Rattle.relay_tool.specs.Making.{OnlyUses, Appends, StopsAt, FailsIn, Makes}
 use Rattle.relay_tool.specs.Leaving.{Gives, EndsAs, Leaves}
@@ -32,8 +32,9 @@ use Rattle.relay_tool.specs.declared.put.Failed.{Failed}
 use Rattle.relay_tool.specs.declared.run.Stopped.{Stopped}
 use Rattle.relay_tool.specs.declared.run.Stopped.TheVariants as stopped
 use Rattle.relay_tool.proofs.Slots.{kept-at, same-slot, clash}
+use Rattle.relay_tool.proofs.Placing.{AreIn, in-after, in-heard, in-study, in-out}
 use Rattle.relay_tool.proofs.Writing.{OnlyUses-refl, Appends-more, FailsIn-lift, Appends-nothing}
-use Rattle.relay_tool.proofs.Staging.{Staged, Laws, staged-none, staged-at, staged-uses, unused-name, written-file, nothing, unbegun, front-all, alone-unstarted}
+use Rattle.relay_tool.proofs.Staging.{Staged, Laws, staged-none, staged-at, staged-uses, used-word, unused-name, written-file, nothing, unbegun, front-all, alone-unstarted}
 
 -- ---- the settings
 
@@ -75,13 +76,14 @@ pub memory-end : (asked : Asked) {a b : RoomState} → Read asked a b → Leaves
 memory-end asked read = leaves asked no_memory read.stage (record { form = refl; unopened = read.alone; answer = answer-none read })
 
 -- they end the run
-pub settings-end : (asked : Asked) (name : List ℕ) {a b : RoomState} (stop : SettingsStop) → Read asked a b →
+pub settings-end : (asked : Asked) (name : List ℕ) {a b : RoomState} (stop : SettingsStop) → word asked Settings ≡ Some name → Read asked a b →
     ((r : Refusal) → accepted (content_of a.contents name) ≡ Err r → run_of (Some asked) a.contents ≡ refused_run r) → SettingsEnd name a b stop → Leaves (Some asked) a b (settings_ending stop)
-settings-end asked name {a} {b} stops.Fault read refuses end = leaves asked (fault Settings) read.stage (
+settings-end asked name {a} {b} stops.Fault is read refuses end = leaves asked (fault Settings) read.stage (
   (λ e. cc),
   record {
     other = λ e. cc;
     rose = end;
+    used = λ told. used-word (Some asked) Settings name is;
     reached = λ told. unbegun (Some asked) Settings (run_of (Some asked) a.contents).writes read.empty (λ e. cc);
     answer = λ told. (0, answer-none read told);
     settings = λ _. read.alone;
@@ -92,13 +94,13 @@ settings-end asked name {a} {b} stops.Fault read refuses end = leaves asked (fau
     some_trip = λ _ _ _. inl refl;
   },
 )
-settings-end asked name {a} {b} (stops.Refused number key) read refuses end = leaves asked (refused number key.bytes) read.stage (record {
+settings-end asked name {a} {b} (stops.Refused number key) is read refuses end = leaves asked (refused number key.bytes) read.stage (record {
   usage = (λ e. cc, λ e. cc);
   gives = λ told. subst (λ (r : Run). Gives r (refused number key.bytes) b) (sym (refuses (refusal number key.bytes) (end told))) (record { ends_as = refl; files = read.empty; answer = answer-none read told });
   started = λ e. cc;
   unstarted = λ _. alone-unstarted read.alone;
 })
-settings-end asked name stops.NoMemory read refuses end = memory-end asked read
+settings-end asked name stops.NoMemory is read refuses end = memory-end asked read
 
 -- ---- the capture
 
@@ -146,12 +148,27 @@ pub record IsJob (asked : Asked) (job : Job) : Type 0 where
   pub runs : (contents : List (List ℕ × List ℕ)) → run_of (Some asked) contents ≡ job_run job contents
   pub faults : (old new : RoomState) → JobFault asked job old new → CaptureFault (Some asked) old new
   pub other : IsRecording (Some asked) → ⊥
+  pub places : (s : PlainSettings) (bodies : List (List ℕ)) → AreIn (uses (Some asked)) (all_writes job s bodies)
 
 pub replay-is : (names : Names) → IsJob (replay names) (replay_job names)
-replay-is names = record { settings_word = refl; capture_word = refl; runs = λ contents. refl; faults = λ old new fault. fault; other = λ e. e }
+replay-is names = record {
+  settings_word = refl;
+  capture_word = refl;
+  runs = λ contents. refl;
+  faults = λ old new fault. fault;
+  other = λ e. e;
+  places = λ s bodies. (refl, in-out (uses (Some (replay names))) refl (heard_items s) (in-heard (uses (Some (replay names))) refl refl s) bodies);
+}
 
 pub study-is : (s : Study) (names : StudyNames) → IsJob (study s names) (study_job s names)
-study-is s names = record { settings_word = refl; capture_word = refl; runs = λ contents. refl; faults = λ old new fault. fault; other = λ e. e }
+study-is s names = record {
+  settings_word = refl;
+  capture_word = refl;
+  runs = λ contents. refl;
+  faults = λ old new fault. fault;
+  other = λ e. e;
+  places = λ settings bodies. in-out (uses (Some (study s names))) refl (study_items s settings) (in-study (uses (Some (study s names))) refl s settings) bodies;
+}
 
 module _ (asked : Asked) (job : Job) (is : IsJob asked job) where
   abbrev Accepts : RoomState → PlainSettings → Type 0
@@ -210,6 +227,7 @@ module _ (asked : Asked) (job : Job) (is : IsJob asked job) where
         record {
           other = λ e. cc;
           rose = (let h = read.stage.later Capture in let r : Rose b.capture.faults d.capture.faults = end.rose in omega arith);
+          used = λ told. used-word (Some asked) Capture job.capture is.capture_word;
           reached = λ told. unbegun (Some asked) Capture (run_of (Some asked) a.contents).writes (nothing law unstarted) (λ e. cc);
           answer = λ told. (0, answer-still read.unused (stage-capture read capture) told);
           settings = λ e. cc;
@@ -283,12 +301,13 @@ module _ (asked : Asked) (job : Job) (is : IsJob asked job) where
 
   -- an output that could not be opened ends it, or a write to one
   fails-end : {a h : RoomState} {s : PlainSettings} {feed : Feed} (left : List ℕ) (slot : Slot) → IsUnused a → Staged (Some asked) a h → IsWrittenFile slot → Rose (at a slot).faults (at h slot).faults →
-      (IsTrue a.tells → Known a s feed left) → (IsTrue a.tells → Reaches (Some asked) slot (all_writes job s (found feed left).bodies) h) → Leaves (Some asked) a h (fault slot)
-  fails-end {a} {h} {s} {feed} left slot unused stage file rose known reached = leaves asked (fault slot) stage (
+      (IsTrue a.tells → IsTrue (uses (Some asked) slot)) → (IsTrue a.tells → Known a s feed left) → (IsTrue a.tells → Reaches (Some asked) slot (all_writes job s (found feed left).bodies) h) → Leaves (Some asked) a h (fault slot)
+  fails-end {a} {h} {s} {feed} left slot unused stage file rose used known reached = leaves asked (fault slot) stage (
     (λ e. cc),
     record {
       other = λ e. streams (subst IsWrittenFile e file);
       rose = rose;
+      used = used;
       reached = λ told. subst (λ (r : Run). Reaches (Some asked) slot r.writes h) (sym (run-found (known told))) (reached told);
       answer = λ told. (0, answer-still unused stage told);
       settings = λ e. absurd (streams-settings (subst IsWrittenFile e file));
@@ -325,6 +344,7 @@ module _ (asked : Asked) (job : Job) (is : IsJob asked job) where
       subst (λ x. Leaves (Some asked) a e (fault x)) (sym opens.end.same)
       (fails-end d.capture.bytes slot before.unused (stage-output slot name file is before opens) file
       (let h = before.stage.later slot in let r : Rose (at d slot).faults (at e slot).faults = opens.end.rose in omega arith)
+      (λ told. used-word (Some asked) slot name is)
       before.known
       (λ told. unbegun (Some asked) slot (all_writes job s (found feed d.capture.bytes).bodies) (empty-output slot name before opens told)
       (λ _ ready. clash (sym (ready slot file (ap is_some is)) ∙ opens.end.shut))))
@@ -354,6 +374,10 @@ module _ (asked : Asked) (job : Job) (is : IsJob asked job) where
   reaches-by : {f h : RoomState} (slot : Slot) (ws : List Item) → IsWritten [] f → StopsAt slot ws f h → Reaches (Some asked) slot ws h
   reaches-by slot ws empty stop = record { whole = stop.whole; part = stop.part; written = written-all (front stop.whole stop.part ws) empty stop.appended; next = λ _ _. stop.next }
 
+  -- the output whose write comes next is one that the command uses
+  next-used : {f h : RoomState} {slot : Slot} (s : PlainSettings) (bodies : List (List ℕ)) → StopsAt slot (all_writes job s bodies) f h → IsTrue (uses (Some asked) slot)
+  next-used {f} {h} {slot} s bodies stop = in-after (uses (Some asked)) stop.whole (all_writes job s bodies) slot (is.places s bodies) stop.next
+
   -- what comes before the records could not be written
   pub header-end : {a f : RoomState} {s : PlainSettings} {feed : Feed} (g : RoomState) (failed : Failed) → Opened a f s feed → Makes job.head f g (Err failed) → Leaves (Some asked) a g (fault failed.slot)
   header-end {a} {f} {s} {feed} g failed opened made =
@@ -361,6 +385,7 @@ module _ (asked : Asked) (job : Job) (is : IsJob asked job) where
       FailsIn-lift failed.slot [] job.head (out (job.tells s) (found feed f.capture.bytes).bodies) g (OnlyUses-refl is_written f) (λ told. Appends-nothing f) made.end in
       fails-end f.capture.bytes failed.slot opened.begun.unused (staged-uses (Some asked) refl refl opened.begun.stage made.only) fails.output
       (let h = opened.begun.stage.later failed.slot in let r : Rose (at f failed.slot).faults (at g failed.slot).faults = fails.rose in omega arith)
+      (λ told. next-used s (found feed f.capture.bytes).bodies (fails.stops (opened.begun.stage.tells ∙ told)))
       opened.begun.known
       (λ told. reaches-by failed.slot (all_writes job s (found feed f.capture.bytes).bodies) (opened.begun.empty told) (fails.stops (opened.begun.stage.tells ∙ told)))
 
@@ -398,6 +423,7 @@ module _ (asked : Asked) (job : Job) (is : IsJob asked job) where
         (FailsIn-lift slot job.head (out (job.tells s) (found feed g.capture.bytes).bodies) [] h made.only made.all fails) in
         fails-end g.capture.bytes slot opened.begun.unused stage fails.output
         (let x = stage_g.later slot in let r : Rose (at g slot).faults (at h slot).faults = fails.rose in omega arith)
+        (λ told. next-used s (found feed g.capture.bytes).bodies (whole.stops (told_f told)))
         known_g
         (λ told. reaches-by slot (all_writes job s (found feed g.capture.bytes).bodies) (opened.begun.empty told) (whole.stops (told_f told)))
 
@@ -408,6 +434,7 @@ module _ (asked : Asked) (job : Job) (is : IsJob asked job) where
       record {
         other = λ e. cc;
         rose = (let x = stage_g.later Capture in let r : Rose g.capture.faults h.capture.faults = breaks.rose in omega arith);
+        used = λ told. used-word (Some asked) Capture job.capture is.capture_word;
         reached = λ told.
             let k = known_g told in
             let b = breaks.at (told_g told) in

@@ -1,6 +1,6 @@
 -- Files opened one after another, and what stands before anything is written.
 use Rattle.std.proofs.Common.{◌≡◌, ◌∙◌, inl, inr, ℕ, ◌≤◌, Bool, true, false, IsTrue, List, [], ◌∷◌, ◌++◌, take, length, refl, sym, ap, subst, arith}
-use Rattle.std.specs.Prelude.{Option, None, Some, if◌then◌else◌}
+use Rattle.std.specs.Prelude.{Option, None, Some, is_some, ◌&&◌, ◌||◌, if◌then◌else◌}
 use Rattle.std.proofs.lemmas.Bool.{cases_Bool}
 use Rattle.room_io.specs.Room.{RoomState, SlotState, at, OnlyAt, IsFile, IsOutput, IsUnopened, IsUnused}
 use Rattle.room_io.specs.declared.room.Slot.{Slot}
@@ -9,6 +9,7 @@ use Rattle.room_io.proofs.Rooms.{tells-OnlyAt}
 use Rattle.relay_tool.specs.Words.{Asked, word_of}
 use Rattle.relay_tool.specs.Output.{Item}
 use Rattle.relay_tool.specs.Files.{is_slot, IsWrittenFile, written, front, IsWritten, AreReady, Reaches, IsNamedBy, AreNamed, IsUnstarted, HasSettingsAlone}
+use Rattle.relay_tool.specs.Answers.{is_answered, uses}
 use Rattle.relay_tool.specs.Making.{OnlyUses}
 use Rattle.relay_tool.proofs.Slots.{same-slot, kept-at, contents-OnlyAt, clash}
 
@@ -31,6 +32,10 @@ unused-name unused Config e = unused.config_file
 unused-name unused Data e = unused.data_file
 unused-name unused Note e = cc
 unused-name unused Answer e = cc
+
+-- a command uses each file that it has a word for
+pub used-word : (asked : Option Asked) (slot : Slot) (name : List ℕ) → word_of asked slot ≡ Some name → IsTrue (uses asked slot)
+used-word asked slot name is = ap (λ (word : Option (List ℕ)). is_some word || (is_answered asked && is_slot slot Answer)) is
 
 -- a call on a file leaves both streams
 file-apart : (slot : Slot) → IsFile slot → (is_slot slot Note ≡ false) × (is_slot slot Answer ≡ false)

@@ -1,17 +1,17 @@
 -- What a room is after a run of the relay: statuses, notes, names and contents, what stands after a fault, and completeness.
-use Rattle.std.specs.Prelude.{◌≡◌, ◌≢◌, ◌⊎◌, ◌↔◌, ℕ, ◌≤◌, ◌<◌, IsTrue, IsSome, List, [], ◌∷◌, ◌++◌, length, take, Option, None, Some, Ok, true, ◌==◌, false}
+use Rattle.std.specs.Prelude.{◌≡◌, ◌≢◌, ◌⊎◌, ◌↔◌, ℕ, ◌≤◌, ◌<◌, Bool, ◌&&◌, ◌||◌, IsTrue, IsSome, is_some, List, [], ◌∷◌, ◌++◌, length, take, Option, None, Some, Ok, true, ◌==◌, false}
 use Rattle.std.specs.List.{list_any}
 use Rattle.room_io.specs.Room.{RoomState, at, Rose, IsFile, IsOutput}
 use Rattle.room_io.specs.declared.room.Slot.{Slot}
-use Rattle.room_io.specs.declared.room.Slot.TheVariants.{Settings, Capture, Note}
+use Rattle.room_io.specs.declared.room.Slot.TheVariants.{Settings, Capture, Note, Answer}
 use Rattle.capture_feed.specs.Records.{Records}
 use Rattle.capture_feed.specs.Captures.{records}
 use Rattle.relay_settings.specs.Settings.{PlainSettings}
 use Rattle.settings_read.specs.Accepted.{accepted}
 use Rattle.relay_tool.specs.Endings.{status_of, note_of, fault, no_memory, not_capture, no_line, done}
-use Rattle.relay_tool.specs.Words.{Asked, replay, study, recording, form}
+use Rattle.relay_tool.specs.Words.{Asked, replay, check, drill, study, recording, form, word_of}
 use Rattle.relay_tool.specs.Run.{Run, Job, replay_job, study_job, run_of, content_of, all_writes, most_capture}
-use Rattle.relay_tool.specs.Files.{IsWritten, Reaches, AreNamed, IsUnstarted, HasSettingsAlone, IsStarted}
+use Rattle.relay_tool.specs.Files.{is_slot, IsWritten, Reaches, AreNamed, IsUnstarted, HasSettingsAlone, IsStarted}
 
 -- the note is a front of this text, and all of it where the count of Note did not rise
 pub record IsNoted (text : List ℕ) (old new : RoomState) : Type 0 where
@@ -61,10 +61,21 @@ abbrev pub most_status : Option Asked → ℕ
 most_status (Some (recording names)) = 10
 most_status asked = 8
 
+-- the command answers on standard output
+abbrev pub is_answered : Option Asked → Bool
+is_answered (Some (check settings)) = true
+is_answered (Some (drill seed seconds)) = true
+is_answered asked = false
+
+-- the slots that a command uses beside Note: each file that it has a word for, and standard output where it answers there
+abbrev pub uses : Option Asked → Slot → Bool
+uses asked slot = is_some (word_of asked slot) || (is_answered asked && is_slot slot Answer)
+
 -- a call of this slot failed in the run that this is without faults
 pub record FailsAt (asked : Option Asked) (slot : Slot) (run : Run) (old new : RoomState) : Type 0 where
   pub other : slot ≢ Note
   pub rose : Rose (at old slot).faults (at new slot).faults
+  pub used : IsTrue old.tells → IsTrue (uses asked slot)
   -- one order of writes: all files stand at one place of it
   pub reached : IsTrue old.tells → Reaches asked slot run.writes new
   pub answer : IsTrue old.tells → (n : ℕ) × (new.answer.bytes ≡ take n run.answer)

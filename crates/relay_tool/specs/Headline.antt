@@ -2,7 +2,7 @@
 -- those of the scalar definition, which forms each phasor anew over the last whole cycle of taken samples; each line's part is what
 -- its own sample sets alone would give; a malformed frame adds its one log line and changes no line's part.
 use Rattle.std.specs.Prelude.{◌≡◌, ◌≢◌, ℕ, IsTrue, List, length, Some, Ok, ◌++◌}
-use Rattle.room_io.specs.Room.{RoomState}
+use Rattle.room_io.specs.Room.{RoomState, Rose}
 use Rattle.room_io.specs.declared.room.Slot.TheVariants.{Goose, Log}
 use Rattle.capture_feed.specs.Records.{Records}
 use Rattle.capture_feed.specs.Captures.{records}
@@ -15,7 +15,6 @@ use Rattle.relay_tool.specs.Output.{heard_items, out}
 use Rattle.relay_tool.specs.Parts.{LinesAreApart, MalformedAddsItsLine}
 use Rattle.relay_tool.specs.Run.{content_of, ending_at, most_capture}
 use Rattle.relay_tool.specs.Files.{written}
-use Rattle.relay_tool.specs.Answers.{IsQuiet}
 
 -- the settings file is accepted, and the capture has a header and these records
 pub record IsReplayOf (words : List (List ℕ)) (settings : PlainSettings) (found : Records) (old : RoomState) : Type 0 where
@@ -32,7 +31,14 @@ pub record IsScalarOutput (settings : PlainSettings) (found : Records) (new : Ro
   pub apart : LinesAreApart settings found.bodies
   pub malformed : MalformedAddsItsLine (heard_items settings)
 
--- in a room that tells content, where no call failed but of Note and memory was enough
+-- no call of the four files failed
+pub record AreQuiet (old new : RoomState) : Type 0 where
+  pub settings : Rose old.settings.faults new.settings.faults → ⊥
+  pub capture : Rose old.capture.faults new.capture.faults → ⊥
+  pub goose : Rose old.goose.faults new.goose.faults → ⊥
+  pub log : Rose old.log.faults new.log.faults → ⊥
+
+-- in a room that tells content, where no call of the four files failed and memory was enough
 abbrev pub IsHeadline : List (List ℕ) → RoomState → RoomState → ℕ → Type 0
 IsHeadline words old new status = (settings : PlainSettings) (found : Records) →
-    IsReplayOf words settings found old → IsTrue old.tells → IsQuiet old new → status ≢ 7 → IsScalarOutput settings found new status
+    IsReplayOf words settings found old → IsTrue old.tells → AreQuiet old new → status ≢ 7 → IsScalarOutput settings found new status

@@ -83,6 +83,9 @@ are_short names = is_short names.settings && (is_short names.capture && (is_shor
 abbrev pub names_of : List ℕ → List ℕ → List ℕ → List ℕ → Names
 names_of settings capture goose log = record { settings = settings; capture = capture; goose = goose; log = log }
 
+abbrev pub replayed : Names → Option Asked
+replayed names = if are_short names then Some (replay names) else None
+
 abbrev pub are_short_study : StudyNames → Bool
 are_short_study names = is_short names.settings && (is_short names.capture && is_short names.log)
 
@@ -132,18 +135,21 @@ abbrev pub recording_of : List ℕ → List ℕ → List ℕ → Option ℕ → 
 recording_of settings capture line None config_file data_file = None
 recording_of settings capture line (Some trip) config_file data_file = recorded (record_names settings capture line trip config_file data_file)
 
+-- what a command asks for whose settings and capture come before four more words
+abbrev pub form_of_seven : List ℕ → List ℕ → List ℕ → List ℕ → List ℕ → List ℕ → List ℕ → Option Asked
+form_of_seven command settings capture third x y z =
+    if bytes_eq command (codes "backup")
+    then studied (study_names settings capture third) (backup_of (curve_named x) (within 1 100000000 (spelled y)) (within 25 1500 (spelled z)))
+    else if bytes_eq command (codes "guard")
+    then studied (study_names settings capture third) (guard_of (within 1 10000 (spelled x)) (within 1 60000 (spelled y)) (within 1 600000 (spelled z)))
+    else if bytes_eq command (codes "record") then recording_of settings capture third (within 1 1000000 (spelled x)) y z else None
+
 -- what the words ask for, where they are a form
 abbrev pub form : List (List ℕ) → Option Asked
 form (command ∷ settings ∷ []) = if bytes_eq command (codes "check") && is_short settings then Some (check settings) else None
 form (command ∷ seed ∷ seconds ∷ []) =
     if bytes_eq command (codes "drill") then drill_of (within 0 (2 ^ 64 - 1) (spelled seed)) (within 1 600 (spelled seconds)) else None
 form (command ∷ settings ∷ capture ∷ log ∷ []) = if bytes_eq command (codes "locate") then studied (study_names settings capture log) (Some locate) else None
-form (command ∷ settings ∷ capture ∷ goose ∷ log ∷ []) =
-    if bytes_eq command (codes "replay") && are_short (names_of settings capture goose log) then Some (replay (names_of settings capture goose log)) else None
-form (command ∷ settings ∷ capture ∷ log ∷ x ∷ y ∷ z ∷ []) =
-    if bytes_eq command (codes "backup")
-    then studied (study_names settings capture log) (backup_of (curve_named x) (within 1 100000000 (spelled y)) (within 25 1500 (spelled z)))
-    else if bytes_eq command (codes "guard")
-    then studied (study_names settings capture log) (guard_of (within 1 10000 (spelled x)) (within 1 60000 (spelled y)) (within 1 600000 (spelled z)))
-    else if bytes_eq command (codes "record") then recording_of settings capture log (within 1 1000000 (spelled x)) y z else None
+form (command ∷ settings ∷ capture ∷ goose ∷ log ∷ []) = if bytes_eq command (codes "replay") then replayed (names_of settings capture goose log) else None
+form (command ∷ settings ∷ capture ∷ third ∷ x ∷ y ∷ z ∷ []) = form_of_seven command settings capture third x y z
 form words = None

@@ -165,37 +165,7 @@ pub fn ended_by(stop: FeedStop, records: u64) -> Result<Stopped, Failed>
     }
 }
 
-/// Treats the records that the feed has left, one by one.
-fn treat_all<R: Room, B: Bank, L: Ledger>(
-    feed: &mut Feed,
-    bank: &mut B,
-    room: &mut R,
-    steps: &mut Steps<L>,
-) -> Result<Stopped, Failed>
-    requires live { IsTrue (is_live feed.old) }
-    requires capture { IsReadyIn Capture (R.state room.old) }
-    requires log { IsReadyOut Log (R.state room.old) }
-    requires open { (slot : Slot) → IsTrue (B.outputs slot) → IsReadyOut slot (R.state room.old) }
-    requires heard { B.heard bank.old ≡ 0 }
-    ensures { (tells : Tells) → B.stands bank.old tells [] →
-        Runs tells (found feed.old) (R.state room.old) (R.state room.new) result }
-{
-    let mut records: u64 = 0;
-    'records: loop {
-        match feed.next(room) {
-            Ok(got) => match got {
-                Some(frame) => {
-                    records += 1;
-                    treat(bank, records, frame, room, steps)?;
-                }
-                None => return Ok(Stopped::Whole),
-            },
-            Err(stop) => return ended_by(stop, records),
-        }
-    }
-}
-
-/// Runs a bank over the records that the feed has left, with a count of steps of its own.
+/// Runs a bank over the records that the feed has left, one by one, with a count of steps of its own.
 pub fn run<R: Room, B: Bank, L: Ledger>(
     feed: &mut Feed,
     bank: &mut B,
@@ -214,5 +184,17 @@ pub fn run<R: Room, B: Bank, L: Ledger>(
         Runs tells (found feed.old) (R.state room.old) (R.state room.new) result }
 {
     let mut steps = open_steps::<L>(blank);
-    treat_all(feed, bank, room, &mut steps)
+    let mut records: u64 = 0;
+    'records: loop {
+        match feed.next(room) {
+            Ok(got) => match got {
+                Some(frame) => {
+                    records += 1;
+                    treat(bank, records, frame, room, &mut steps)?;
+                }
+                None => return Ok(Stopped::Whole),
+            },
+            Err(stop) => return ended_by(stop, records),
+        }
+    }
 }

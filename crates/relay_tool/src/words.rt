@@ -1,10 +1,10 @@
 //! The words of the command line.
-ghost use Rattle.std.specs.Prelude.{◌≡◌, map, string_bytes, length, nat_le, ◌-◌, ◌^◌, ◌<◌, ◌≤◌};
+ghost use Rattle.std.specs.Prelude.{◌≡◌, Some, map, string_bytes, length, nat_le, ◌-◌, ◌^◌, ◌<◌, ◌≤◌};
 ghost use Rattle.std.specs.Fmt.{decimal};
 ghost use Rattle.std.specs.Str.{bytes_eq};
 ghost use Rattle.std.specs.Option.{option_map};
 ghost use Rattle.std.specs.Option.{ForSome};
-ghost use Rattle.relay_tool.specs.Words.{form, are_short as are_short_names, are_short_study as are_short_study_names, are_short_record as are_short_record_names, recorded, recording_of as recording_asked, spelled, within, drill_of as drill_asked, backup_of as backup_asked, guard_of as guard_asked, curve_named as curve_by, study_names, studied};
+ghost use Rattle.relay_tool.specs.Words.{form, form_of_seven, names_of, replayed, locate, are_short as are_short_names, are_short_study as are_short_study_names, are_short_record as are_short_record_names, recorded, recording_of as recording_asked, spelled, within, drill_of as drill_asked, backup_of as backup_asked, guard_of as guard_asked, curve_named as curve_by, study_names, studied};
 ghost use Rattle.relay_tool.specs.Asking.{names_of_files, names_of_study, names_of_record, study_of, asked_of, IsInRange, IsStudy, IsRecord};
 
 use arrayvec::ArrayVec;
@@ -94,55 +94,83 @@ pub fn parse<'a>(words: &'a [String]) -> Option<Command<'a>>
         } else {
             None
         },
-        [command, settings, capture, log] => {
-            let files = StudyFiles {
-                settings: settings.as_str(),
-                capture: capture.as_str(),
-                log: log.as_str(),
-            };
-            if command.as_str() == "locate" {
-                study_on(files, Some(Study::Locate))
-            } else {
-                None
-            }
-        }
-        [command, settings, capture, goose, log] => {
-            let files = Files {
-                settings: settings.as_str(),
-                capture: capture.as_str(),
-                goose: goose.as_str(),
-                log: log.as_str(),
-            };
-            if command.as_str() == "replay" && are_short(&files) {
-                Some(Command::Replay(files))
-            } else {
-                None
-            }
-        }
-        [command, settings, capture, log, x, y, z] => {
-            let files = StudyFiles {
-                settings: settings.as_str(),
-                capture: capture.as_str(),
-                log: log.as_str(),
-            };
-            if command.as_str() == "backup" {
-                study_on(files, backup_of(x.as_str(), y.as_str(), z.as_str()))
-            } else if command.as_str() == "guard" {
-                study_on(files, guard_of(x.as_str(), y.as_str(), z.as_str()))
-            } else if command.as_str() == "record" {
-                record_of(
-                    settings.as_str(),
-                    capture.as_str(),
-                    log.as_str(),
-                    x.as_str(),
-                    y.as_str(),
-                    z.as_str(),
-                )
-            } else {
-                None
-            }
-        }
+        [command, settings, capture, log] => if command.as_str() == "locate" {
+            locate_of(settings.as_str(), capture.as_str(), log.as_str())
+        } else {
+            None
+        },
+        [command, settings, capture, goose, log] => if command.as_str() == "replay" {
+            replay_of(
+                settings.as_str(),
+                capture.as_str(),
+                goose.as_str(),
+                log.as_str(),
+            )
+        } else {
+            None
+        },
+        [command, settings, capture, third, x, y, z] => parse_seven(
+            command.as_str(),
+            settings.as_str(),
+            capture.as_str(),
+            third.as_str(),
+            x.as_str(),
+            y.as_str(),
+            z.as_str(),
+        ),
         _ => None,
+    }
+}
+
+/// What a command asks for whose settings and capture come before four more words: `backup`, `guard` or `record`.
+fn parse_seven<'a>(
+    command: &str,
+    settings: &'a str,
+    capture: &'a str,
+    third: &'a str,
+    x: &'a str,
+    y: &'a str,
+    z: &'a str,
+) -> Option<Command<'a>>
+    ensures value { option_map asked_of result ≡ form_of_seven command.now settings.entry.now capture.entry.now third.entry.now x.entry.now y.entry.now z.entry.now }
+    ensures range { ForSome result IsInRange }
+{
+    let files = StudyFiles {
+        settings,
+        capture,
+        log: third,
+    };
+    if command == "backup" {
+        study_on(files, backup_of(x, y, z))
+    } else if command == "guard" {
+        study_on(files, guard_of(x, y, z))
+    } else if command == "record" {
+        record_of(settings, capture, third, x, y, z)
+    } else {
+        None
+    }
+}
+
+/// What `replay` asks for, where its file words are short.
+fn replay_of<'a>(
+    settings: &'a str,
+    capture: &'a str,
+    goose: &'a str,
+    log: &'a str,
+) -> Option<Command<'a>>
+    ensures value { option_map asked_of result ≡ replayed (names_of settings.entry.now capture.entry.now goose.entry.now log.entry.now) }
+    ensures range { ForSome result IsInRange }
+{
+    let files = Files {
+        settings,
+        capture,
+        goose,
+        log,
+    };
+    if are_short(&files) {
+        Some(Command::Replay(files))
+    } else {
+        None
     }
 }
 
@@ -163,6 +191,19 @@ fn drill_of<'a>(seed: &str, seconds: &str) -> Option<Command<'a>>
     let seed = number_of(seed)?;
     let seconds = number_within(seconds, 1, 600)?;
     Some(Command::Drill { seed, seconds })
+}
+
+/// What `locate` asks for, where its file words are short.
+fn locate_of<'a>(settings: &'a str, capture: &'a str, log: &'a str) -> Option<Command<'a>>
+    ensures value { option_map asked_of result ≡ studied (study_names settings.entry.now capture.entry.now log.entry.now) (Some locate) }
+    ensures range { ForSome result IsInRange }
+{
+    let files = StudyFiles {
+        settings,
+        capture,
+        log,
+    };
+    study_on(files, Some(Study::Locate))
 }
 
 /// A study of these files, where there is one and their words are short.

@@ -1,4 +1,4 @@
-use Rattle.std.proofs.Common.{◌≡◌, ◌∙◌, ℕ, List, [], length, sym, subst, ap, arith}
+use Rattle.std.proofs.Common.{◌≡◌, ◌∙◌, ℕ, List, [], length, refl, sym, subst, ap, arith}
 use Rattle.std.specs.List.{All}
 use Rattle.std.proofs.lemmas.Result.{err_from_is_err_and}
 use Rattle.relay_settings.specs.Settings.{PlainSettings}
@@ -39,7 +39,7 @@ returns-in_err-put g c =
     let text = drill-text c.args.seed c.args.seconds c.run_plan-counted.result.0 c.run_plan-counted.result.1 (frames_left c.of-plan.result) c.as_slice.result.now
     c.of-plan.ensures c.run_plan-counted.ensures.frames (c.run_plan-counted.ensures.counts drill_settings stands) (c.as_slice.ensures.value ∙ c.summary_of-answer.ensures) in
     rw (p.1, p.2) (answer-fault (drill c.args.seed c.args.seconds) (λ e. e) _ c.as_slice.result.now (drill-read c.args.seed c.args.seconds c.requires.unused (record { unopened = g.met.R.Room.unopened c.args.room.now }))
-    (λ told. ap answered (sym text)) c.in_err-put.field-0.0 c.in_err-put.ensures)
+    (λ told. ap answered (sym text)) c.in_err-put.field-0.0 refl c.in_err-put.ensures)
 
 pub returns : goal.returns
 returns g c =

@@ -15,7 +15,7 @@ pub returns-in_err-settings : goal.returns-in_err-settings
 returns-in_err-settings g c =
     let n = names_of_files c.args.files.now in
     let p = err_from_is_err_and c.from_residual.result c.from_residual.ensures.1 in
-    rw (p.1, p.2) (settings-end (replay n) n.settings c.in_err-settings.field-0.0 (read-by (replay n) n.settings refl c.requires.unused (record { unopened = g.met.R.Room.unopened c.accept_settings.new.room }) c.in_err-settings.ensures) (refuses (replay n) (replay_job n) (replay-is n) (g.R.Room.state c.args.room.now)) c.in_err-settings.ensures.end)
+    rw (p.1, p.2) (settings-end (replay n) n.settings c.in_err-settings.field-0.0 refl (read-by (replay n) n.settings refl c.requires.unused (record { unopened = g.met.R.Room.unopened c.accept_settings.new.room }) c.in_err-settings.ensures) (refuses (replay n) (replay_job n) (replay-is n) (g.R.Room.state c.args.room.now)) c.in_err-settings.ensures.end)
 
 pub returns-in_err-open_capture : goal.returns-in_err-open_capture
 returns-in_err-open_capture g c =

@@ -14,7 +14,7 @@ returns-in_err-settings g c =
     let n = names_of_study c.args.files.now in
     let s = study_of c.args.study in
     let p = err_from_is_err_and c.from_residual.result c.from_residual.ensures.1 in
-    rw (p.1, p.2) (settings-end (study s n) n.settings c.in_err-settings.field-0.0 (read-by (study s n) n.settings refl c.requires.unused (record { unopened = g.met.R.Room.unopened c.accept_settings.new.room }) c.in_err-settings.ensures) (refuses (study s n) (study_job s n) (study-is s n) (g.R.Room.state c.args.room.now)) c.in_err-settings.ensures.end)
+    rw (p.1, p.2) (settings-end (study s n) n.settings c.in_err-settings.field-0.0 refl (read-by (study s n) n.settings refl c.requires.unused (record { unopened = g.met.R.Room.unopened c.accept_settings.new.room }) c.in_err-settings.ensures) (refuses (study s n) (study_job s n) (study-is s n) (g.R.Room.state c.args.room.now)) c.in_err-settings.ensures.end)
 
 pub returns-in-Backup : goal.returns-in-Backup
 returns-in-Backup g c =

@@ -12,7 +12,7 @@ use Rattle.relay_tool.specs.declared.put.Failed.{Failed}
 use Rattle.relay_tool.specs.declared.run.Stopped.{Stopped}
 use Rattle.relay_tool.proofs.Writing.{OnlyUses-refl, OnlyUses-trans}
 use Rattle.relay_tool.proofs.Treating.{works-writes, works-reads, treated-none, treated-next, treated-stopped, treated-finished, treated-halted, same-place}
-use Rattle.relay_tool.proofs.run.treat_all.Goals as goal
+use Rattle.relay_tool.proofs.run.run.Goals as goal
 
 pub records-init : goal.records-init
 records-init g c = record {

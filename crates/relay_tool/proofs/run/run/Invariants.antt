@@ -6,7 +6,7 @@ use Rattle.capture_feed.specs.Left.{found, is_live, taken_by, limit_of}
 use Rattle.relay_tool.specs.Output.{Tells}
 use Rattle.relay_tool.specs.Making.{OnlyWorks}
 use Rattle.relay_tool.proofs.Treating.{Treated}
-use Rattle.relay_tool.proofs.run.treat_all.Given as goal
+use Rattle.relay_tool.proofs.run.run.Given as goal
 
 abbrev pub invariant-records : goal.invariant-records
 invariant-records g l = record {
