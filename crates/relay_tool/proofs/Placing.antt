@@ -1,5 +1,5 @@
 -- The slots of what is written.
-use Rattle.std.proofs.Common.{◌≡◌, ◌∙◌, ℕ, zero, suc, ◌+◌, Bool, true, IsTrue, List, [], ◌∷◌, ◌++◌, Option, None, Some, map, reverse, refl, sym, ap}
+use Rattle.std.proofs.Common.{◌≡◌, ◌∙◌, ℕ, zero, suc, ◌+◌, Bool, true, IsTrue, List, [], ◌∷◌, ◌++◌, Option, None, Some, map, reverse, sym, ap}
 use Rattle.room_io.specs.declared.room.Slot.{Slot}
 use Rattle.room_io.specs.declared.room.Slot.TheVariants.{Goose, Log, Config, Data}
 use Rattle.sample_windows.specs.Windows.{in_order}

@@ -1,4 +1,4 @@
-use Rattle.std.proofs.Common.{ℕ, ◌≡◌, ◌≢◌, ◌<◌, List, [], ◌∷◌, None, length, map, string_bytes, refl, sym, arith}
+use Rattle.std.proofs.Common.{ℕ, ◌≡◌, ◌≢◌, List, [], ◌∷◌, None, length, map, string_bytes, refl, arith}
 use Rattle.std.proofs.lemmas.List.{length-map}
 use Rattle.std.proofs.lemmas.Bool.Decides.{nat_tests}
 use Rattle.relay_tool.specs.Words.{form}
@@ -20,7 +20,7 @@ pub returns-in_default-clause-value : goal.returns-in_default-clause-value
 returns-in_default-clause-value c =
     let long : length (map string_bytes c.args.words.now) ≡ length c.args.words.now = length-map c.args.words.now string_bytes in
     elim c.in_default.branch [
-  | in_default-via-then-words-lt2 w ↦ no_form (map string_bytes c.args.words.now) (λ e. grind (arith, nat_tests, long, e)) (λ e. grind (arith, nat_tests, long, e)) (λ e. grind (arith, nat_tests, long, e)) (λ e. grind (arith, nat_tests, long, e)) (λ e. grind (arith, nat_tests, long, e))
-  | in_default-via-else-words-lt2+else-words-lt3+else-words-lt4+else-words-lt5+else-words-lt6+then-words-lt7 w ↦ no_form (map string_bytes c.args.words.now) (λ e. grind (arith, nat_tests, long, e)) (λ e. grind (arith, nat_tests, long, e)) (λ e. grind (arith, nat_tests, long, e)) (λ e. grind (arith, nat_tests, long, e)) (λ e. grind (arith, nat_tests, long, e))
-  | in_default-via-else-words-lt2+else-words-lt3+else-words-lt4+else-words-lt5+else-words-lt6+else-words-lt7+else-words-lt8 w ↦ no_form (map string_bytes c.args.words.now) (λ e. grind (arith, nat_tests, long, e)) (λ e. grind (arith, nat_tests, long, e)) (λ e. grind (arith, nat_tests, long, e)) (λ e. grind (arith, nat_tests, long, e)) (λ e. grind (arith, nat_tests, long, e))
-]
+      | in_default-via-then-words-lt2 w ↦ no_form (map string_bytes c.args.words.now) (λ e. grind (arith, nat_tests, long, e)) (λ e. grind (arith, nat_tests, long, e)) (λ e. grind (arith, nat_tests, long, e)) (λ e. grind (arith, nat_tests, long, e)) (λ e. grind (arith, nat_tests, long, e))
+      | in_default-via-else-words-lt2+else-words-lt3+else-words-lt4+else-words-lt5+else-words-lt6+then-words-lt7 w ↦ no_form (map string_bytes c.args.words.now) (λ e. grind (arith, nat_tests, long, e)) (λ e. grind (arith, nat_tests, long, e)) (λ e. grind (arith, nat_tests, long, e)) (λ e. grind (arith, nat_tests, long, e)) (λ e. grind (arith, nat_tests, long, e))
+      | in_default-via-else-words-lt2+else-words-lt3+else-words-lt4+else-words-lt5+else-words-lt6+else-words-lt7+else-words-lt8 w ↦ no_form (map string_bytes c.args.words.now) (λ e. grind (arith, nat_tests, long, e)) (λ e. grind (arith, nat_tests, long, e)) (λ e. grind (arith, nat_tests, long, e)) (λ e. grind (arith, nat_tests, long, e)) (λ e. grind (arith, nat_tests, long, e))
+    ]
