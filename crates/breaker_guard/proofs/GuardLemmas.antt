@@ -11,13 +11,13 @@ use Rattle.sample_windows.proofs.RunLemmas.{Rises-at_each}
 use Rattle.relay_num.specs.declared.Cx.{Cx}
 use Rattle.relay_settings.specs.declared.types.Common.{Common}
 use Rattle.relay_settings.specs.Settings.{PlainLine}
-use Rattle.relay_settings.specs.Samples.{samples}
+use Rattle.relay_settings.specs.Times.{samples}
 use Rattle.sv_frame.specs.Asdu.{PlainAsdu}
 use Rattle.event_record.specs.declared.event.Event.{Event}
 use Rattle.event_record.specs.Time.{time_of}
 use Rattle.trip_logic.specs.Seal.{stands}
 use Rattle.line_relay.specs.declared.front.Step.{Step}
-use Rattle.line_relay.specs.Samples.{Numbered, number_of_sample, is_ready}
+use Rattle.line_relay.specs.LineSamples.{Numbered, number_of_sample, is_ready}
 use Rattle.line_relay.specs.Phasors.{phasors_of, phasor_of, eight}
 use Rattle.line_relay.specs.Measured.{measured}
 use Rattle.line_relay.specs.Guards.{measured_at}

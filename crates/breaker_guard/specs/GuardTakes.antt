@@ -8,7 +8,7 @@ use Rattle.relay_settings.specs.declared.types.Common.{Common}
 use Rattle.relay_settings.specs.Settings.{PlainLine}
 use Rattle.loop_impedance.specs.Loops.{item}
 use Rattle.line_relay.specs.declared.measured.Measured.{Measured}
-use Rattle.line_relay.specs.Samples.{Numbered, number_of_sample}
+use Rattle.line_relay.specs.LineSamples.{Numbered, number_of_sample}
 use Rattle.line_relay.specs.Guards.{is_ready_at, measured_at}
 use Rattle.line_relay.specs.Operate.{is_tripped_at}
 

@@ -3,7 +3,7 @@
 use Rattle.std.specs.Prelude.{ℕ, ◌≤◌, ◌+◌, ◌==◌, Bool, false, ◌&&◌, ◌||◌, nat_le, nat_lt, if◌then◌else◌, List, [], ◌∷◌, ◌++◌, Option, Some, None, is_some}
 use Rattle.std.specs.List.{list_any}
 use Rattle.std.specs.Option.{option_and_then}
-use Rattle.relay_settings.specs.Samples.{samples}
+use Rattle.relay_settings.specs.Times.{samples}
 use Rattle.breaker_guard.specs.declared.waits.GuardTimes.{GuardTimes}
 use Rattle.breaker_guard.specs.declared.waits.Waits.{Waits}
 use Rattle.breaker_guard.specs.declared.event.GuardWhat.{GuardWhat}

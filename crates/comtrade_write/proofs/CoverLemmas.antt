@@ -12,7 +12,7 @@ use Rattle.sv_frame.specs.Channels.{channels_of}
 use Rattle.sv_frame.specs.declared.channel.Channel.{Channel}
 use Rattle.sample_stream.specs.Samples.{is_good, used_values}
 use Rattle.sample_stream.proofs.SampleLemmas.{used_below}
-use Rattle.line_relay.specs.Samples.{Numbered}
+use Rattle.line_relay.specs.LineSamples.{Numbered}
 use Rattle.line_relay.specs.Outcomes.{number_taken, sample_in, with_sample, outcome_of, taken_samples}
 use Rattle.comtrade_read.specs.Rows.{AreValues}
 use Rattle.comtrade_write.specs.declared.covered.Recorded.{Recorded}

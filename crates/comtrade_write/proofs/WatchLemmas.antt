@@ -9,7 +9,7 @@ use Rattle.sv_frame.specs.Asdu.{PlainAsdu}
 use Rattle.sample_stream.specs.declared.sample.Sample.{Sample}
 use Rattle.event_record.specs.declared.event.Event.{Event}
 use Rattle.line_relay.specs.declared.front.Step.{Step}
-use Rattle.line_relay.specs.Samples.{Numbered, number_of_sample}
+use Rattle.line_relay.specs.LineSamples.{Numbered, number_of_sample}
 use Rattle.line_relay.specs.Outcomes.{number_taken, sample_in, taken_samples, outcome_of}
 use Rattle.line_relay.specs.Steps.{step_by, step_of}
 use Rattle.line_relay.specs.Operate.{is_tripped_at}

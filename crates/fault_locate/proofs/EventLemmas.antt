@@ -14,7 +14,7 @@ use Rattle.event_record.specs.declared.event.What.{What}
 use Rattle.event_record.specs.declared.event.Event.{Event}
 use Rattle.line_relay.specs.declared.front.Outcome.{Outcome}
 use Rattle.line_relay.specs.declared.front.Outcome.TheVariants as outcomes
-use Rattle.line_relay.specs.Samples.{Numbered}
+use Rattle.line_relay.specs.LineSamples.{Numbered}
 use Rattle.line_relay.specs.Outcomes.{taken_samples, outcome_of}
 use Rattle.line_relay.specs.Facts.{facts_of}
 use Rattle.line_relay.specs.Events.{arrival, changes, told}

@@ -11,7 +11,7 @@ use Rattle.relay_settings.specs.Ranges.{IsImpedance, IsWhole}
 use Rattle.sv_frame.specs.Asdu.{PlainAsdu}
 use Rattle.event_record.specs.declared.event.Event.{Event}
 use Rattle.line_relay.specs.declared.front.Step.{Step}
-use Rattle.line_relay.specs.Samples.{Numbered, number_of_sample}
+use Rattle.line_relay.specs.LineSamples.{Numbered, number_of_sample}
 use Rattle.line_relay.specs.Phasors.{phasors_of}
 use Rattle.line_relay.specs.Outcomes.{number_taken, taken_samples, taken_number, outcome_of}
 use Rattle.line_relay.specs.Steps.{step_of}

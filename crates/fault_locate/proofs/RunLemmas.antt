@@ -12,7 +12,7 @@ use Rattle.sample_windows.proofs.RunLemmas.{of_run-next, of_run-gap}
 use Rattle.relay_num.specs.declared.Cx.{Cx}
 use Rattle.relay_settings.specs.declared.types.Common.{Common}
 use Rattle.relay_settings.specs.Settings.{PlainLine}
-use Rattle.line_relay.specs.Samples.{Numbered, number_of_sample, newest_of}
+use Rattle.line_relay.specs.LineSamples.{Numbered, number_of_sample, newest_of}
 use Rattle.line_relay.specs.Phasors.{phasors_of, phasor_of, eight}
 use Rattle.line_relay.specs.Measured.{measured}
 use Rattle.line_relay.specs.Guards.{is_ready_at, measured_at}

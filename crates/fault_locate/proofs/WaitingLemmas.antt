@@ -10,7 +10,7 @@ use Rattle.relay_num.specs.declared.Cx.{Cx}
 use Rattle.relay_settings.specs.declared.types.Common.{Common}
 use Rattle.relay_settings.specs.Settings.{PlainLine}
 use Rattle.event_record.specs.Time.{time_of}
-use Rattle.line_relay.specs.Samples.{Numbered, number_of_sample}
+use Rattle.line_relay.specs.LineSamples.{Numbered, number_of_sample}
 use Rattle.line_relay.specs.Phasors.{phasors_of, phasor_of, eight}
 use Rattle.line_relay.specs.Measured.{measured}
 use Rattle.line_relay.specs.Guards.{is_ready_at, measured_at}

@@ -7,7 +7,7 @@ use Rattle.sample_windows.specs.Numbered.{of_run}
 use Rattle.relay_num.specs.declared.Cx.{Cx}
 use Rattle.relay_settings.specs.declared.types.Common.{Common}
 use Rattle.relay_settings.specs.Settings.{PlainLine}
-use Rattle.line_relay.specs.Samples.{Numbered, number_of_sample}
+use Rattle.line_relay.specs.LineSamples.{Numbered, number_of_sample}
 use Rattle.line_relay.specs.Guards.{is_ready_at, measured_at}
 use Rattle.fault_locate.specs.declared.lookback.Lookback.{Lookback}
 use Rattle.fault_locate.specs.Locating.{is_taken}

@@ -11,7 +11,7 @@ use Rattle.relay_settings.specs.Settings.{PlainLine}
 use Rattle.loop_impedance.specs.Loops.{item, currents_of}
 use Rattle.event_record.specs.declared.time.At.{At}
 use Rattle.line_relay.specs.declared.measured.Measured.{Measured}
-use Rattle.line_relay.specs.Samples.{Numbered, number_of_sample}
+use Rattle.line_relay.specs.LineSamples.{Numbered, number_of_sample}
 use Rattle.line_relay.specs.Inside.{k0_of, line_impedance, loop_voltage, loop_current}
 use Rattle.fault_locate.specs.declared.located.Located.{Located}
 use Rattle.fault_locate.specs.declared.waiting.Waiting.{Waiting}

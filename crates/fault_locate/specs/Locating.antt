@@ -10,7 +10,7 @@ use Rattle.relay_settings.specs.declared.types.Common.{Common}
 use Rattle.relay_settings.specs.Settings.{PlainLine}
 use Rattle.sv_frame.specs.Asdu.{PlainAsdu}
 use Rattle.event_record.specs.Time.{time_of}
-use Rattle.line_relay.specs.Samples.{Numbered, number_of_sample}
+use Rattle.line_relay.specs.LineSamples.{Numbered, number_of_sample}
 use Rattle.line_relay.specs.Outcomes.{number_taken, outcome_of, taken_samples}
 use Rattle.line_relay.specs.Guards.{is_ready_at, measured_at}
 use Rattle.line_relay.specs.Inside.{line_impedance, loop_voltage, loop_current}

@@ -5,7 +5,7 @@ use Rattle.relay_num.specs.declared.Cx.{Cx}
 use Rattle.relay_settings.specs.declared.types.Common.{Common}
 use Rattle.relay_settings.specs.Settings.{PlainLine}
 use Rattle.event_record.specs.declared.event.Event.{Event}
-use Rattle.line_relay.specs.Samples.{Numbered, number_of_sample, newest_of}
+use Rattle.line_relay.specs.LineSamples.{Numbered, number_of_sample, newest_of}
 use Rattle.line_relay.specs.Phasors.{phasors_of}
 use Rattle.fault_locate.specs.TripLoops.{is_trip_at, loop_at}
 use Rattle.fault_locate.specs.TripEvents.{has_trip, first_loop_of}

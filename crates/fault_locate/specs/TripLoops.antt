@@ -6,7 +6,7 @@ use Rattle.relay_settings.specs.declared.types.ZoneSettings.{ZoneSettings}
 use Rattle.relay_settings.specs.Settings.{PlainLine}
 use Rattle.event_record.specs.declared.event.What.{What}
 use Rattle.event_record.specs.declared.event.What.TheVariants.{Operate, Trip}
-use Rattle.line_relay.specs.Samples.{Numbered}
+use Rattle.line_relay.specs.LineSamples.{Numbered}
 use Rattle.line_relay.specs.Inside.{holds_of}
 use Rattle.line_relay.specs.Facts.{facts_of}
 use Rattle.line_relay.specs.Events.{changes}

@@ -118,7 +118,7 @@ impl Locator {
     ghost use Rattle.relay_num.specs.Numbers.{IsBelow};
     ghost use Rattle.relay_settings.specs.Settings.{plain_line};
     ghost use Rattle.event_record.specs.Printable.{IsPrintable};
-    ghost use Rattle.line_relay.specs.Samples.{Numbered};
+    ghost use Rattle.line_relay.specs.LineSamples.{Numbered};
     ghost use Rattle.fault_locate.specs.Locating.{located_at};
     ghost use Rattle.fault_locate.specs.LocateTexts.{IsPrintableLocated};
     ghost use Rattle.fault_locate.specs.NextSample.{IsNext};

@@ -9,7 +9,7 @@ use Rattle.ber_fields.proofs.WrittenLaws.{written_is_read}
 use Rattle.relay_settings.specs.declared.types.Common.{Common}
 use Rattle.relay_settings.specs.Settings.{PlainGoose}
 use Rattle.goose_publish.specs.declared.points.Send.{Send}
-use Rattle.goose_publish.specs.Frame.{fields_bytes, pdu_bytes, frame_bytes}
+use Rattle.goose_publish.specs.GooseFrame.{fields_bytes, pdu_bytes, frame_bytes}
 use Rattle.goose_publish.specs.FrameEnds.{EndsAtItsLength}
 
 -- a head has four bytes at most

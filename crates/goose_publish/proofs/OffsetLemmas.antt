@@ -5,7 +5,7 @@ use Rattle.std.proofs.lemmas.Bool.{cases_lt, and_from, and_left, and_right, lt-l
 use Rattle.sample_windows.specs.Below.{any_below, greatest_below}
 use Rattle.sample_windows.proofs.BelowLemmas.{any_below_from, any_below_none, greatest_below_is}
 use Rattle.relay_settings.specs.declared.types.Common.{Common}
-use Rattle.relay_settings.specs.Samples.{samples}
+use Rattle.relay_settings.specs.Times.{samples}
 use Rattle.goose_publish.specs.Offsets.{step_ms, offset_ms}
 
 pub samples_mono : (rate a b : ℕ) → a ≤ b → samples rate a ≤ samples rate b

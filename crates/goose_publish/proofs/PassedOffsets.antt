@@ -1,7 +1,7 @@
 -- Offsets that were passed, while more may be.
 use Rattle.std.specs.Prelude.{ℕ, ◌≤◌}
 use Rattle.relay_settings.specs.declared.types.Common.{Common}
-use Rattle.relay_settings.specs.Samples.{samples}
+use Rattle.relay_settings.specs.Times.{samples}
 use Rattle.goose_publish.specs.declared.pace.Pace.{Pace}
 use Rattle.goose_publish.specs.Offsets.{offset_ms}
 use Rattle.goose_publish.specs.Paces.{IsAt}

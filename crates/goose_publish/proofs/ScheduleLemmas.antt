@@ -9,7 +9,7 @@ use Rattle.relay_settings.specs.declared.types.Common.{Common}
 use Rattle.goose_publish.specs.declared.pace.Pace.{Pace}
 use Rattle.goose_publish.specs.declared.points.Points.{Points}
 use Rattle.goose_publish.specs.declared.schedule.Schedule.{Schedule}
-use Rattle.relay_settings.specs.Samples.{samples}
+use Rattle.relay_settings.specs.Times.{samples}
 use Rattle.goose_publish.specs.Offsets.{offset_ms}
 use Rattle.goose_publish.specs.Paces.{IsAt, Passed}
 use Rattle.goose_publish.specs.Publishing.{PointsTake, RisesTo, number_now, same_points, changes_now, change_number, is_due, last_offset, live_ms, next_count, state, sequence}

@@ -2,7 +2,7 @@ pub mod Tags
 pub mod Offsets
 pub mod Publishing
 pub mod Sends
-pub mod Frame
+pub mod GooseFrame
 pub mod Paces
 pub mod Schedules
 pub mod Publishers

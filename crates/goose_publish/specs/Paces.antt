@@ -1,7 +1,7 @@
 -- How far the offsets of repeated GOOSE frames have come.
 use Rattle.std.specs.Prelude.{ℕ, suc, ◌≡◌, ◌<◌, ◌≤◌}
 use Rattle.relay_settings.specs.declared.types.Common.{Common}
-use Rattle.relay_settings.specs.Samples.{samples}
+use Rattle.relay_settings.specs.Times.{samples}
 use Rattle.goose_publish.specs.declared.pace.Pace.{Pace}
 use Rattle.goose_publish.specs.Offsets.{step_ms, offset_ms}
 

@@ -6,7 +6,7 @@ use Rattle.sample_windows.specs.Below.{any_below, greatest_below}
 use Rattle.sample_windows.specs.Numbered.{newest_number, Rises}
 use Rattle.sample_windows.specs.Windows.{newest_where}
 use Rattle.relay_settings.specs.declared.types.Common.{Common}
-use Rattle.relay_settings.specs.Samples.{samples}
+use Rattle.relay_settings.specs.Times.{samples}
 use Rattle.goose_publish.specs.declared.points.Points.{Points}
 use Rattle.goose_publish.specs.declared.points.Send.{Send}
 use Rattle.goose_publish.specs.Offsets.{offset_ms}

@@ -1,7 +1,7 @@
 //! The bytes of a frame.
 ghost use Rattle.std.specs.Prelude.{◌≡◌, ◌<◌, ◌≤◌, length};
 ghost use Rattle.relay_settings.specs.Settings.{plain_goose};
-ghost use Rattle.goose_publish.specs.Frame.{time_bytes, values_bytes, fields_bytes, frame_bytes};
+ghost use Rattle.goose_publish.specs.GooseFrame.{time_bytes, values_bytes, fields_bytes, frame_bytes};
 
 use crate::points::{Points, Send};
 use crate::put::{boolean, head, number, quality, text, word};
@@ -26,7 +26,7 @@ fn time_bytes(common: &Common, number: u64) -> [u8; 8]
 
 /// The values of the data set, each but the last with its quality. A trip that stands stays good where samples
 /// are missing.
-#[tactic(auto, unfolding(crate::specs::Frame::values_bytes))]
+#[tactic(auto, unfolding(crate::specs::GooseFrame::values_bytes))]
 fn values(points: &Points) -> ArrayVec<u8, 1024>
     ensures bytes { result.items ≡ values_bytes points.now }
     ensures long { length result.items ≤ 41 }
@@ -45,7 +45,7 @@ fn values(points: &Points) -> ArrayVec<u8, 1024>
 }
 
 /// The fields of the PDU.
-#[tactic(auto, unfolding(crate::specs::Frame::fields_bytes))]
+#[tactic(auto, unfolding(crate::specs::GooseFrame::fields_bytes))]
 fn fields(common: &Common, goose: &GooseSettings, send: &Send) -> ArrayVec<u8, 1024>
     requires { (1000 ≤ common.now.rate) × (common.now.rate ≤ 4800) }
     ensures bytes { result.items ≡ fields_bytes common.now (plain_goose goose.now) send.now }
@@ -70,7 +70,7 @@ fn fields(common: &Common, goose: &GooseSettings, send: &Send) -> ArrayVec<u8, 1
 }
 
 /// The whole frame.
-#[tactic(auto, unfolding(crate::specs::Frame::frame_bytes))]
+#[tactic(auto, unfolding(crate::specs::GooseFrame::frame_bytes))]
 pub fn frame_bytes(common: &Common, goose: &GooseSettings, send: &Send) -> ArrayVec<u8, 1024>
     requires rate { (1000 ≤ common.now.rate) × (common.now.rate ≤ 4800) }
     requires vlan_priority { goose.now.vlan_priority ≤ 7 }

@@ -5,7 +5,7 @@
 //! start, at the settings' rate; offsets are milliseconds, and fall on the first sample that is as late.
 //!
 //! `specs/Publishing.antt` defines what is sent at each take over the list of all of them, and
-//! `specs/Frame.antt` the frame's bytes; the `show_` functions are laws of these definitions, and do nothing.
+//! `specs/GooseFrame.antt` the frame's bytes; the `show_` functions are laws of these definitions, and do nothing.
 //! It stands on `relay_settings` for the settings, on `sample_windows` for searches over numbers and takes, and
 //! on `ber_fields` for the elements of a frame. Nothing here takes memory.
 #![tactic(auto)]

@@ -1,7 +1,7 @@
 //! How far the offsets of the frames after a change have come.
 
 ghost use Rattle.std.specs.Prelude.{◌≡◌, ◌<◌, ◌≤◌};
-ghost use Rattle.relay_settings.specs.Samples.{samples};
+ghost use Rattle.relay_settings.specs.Times.{samples};
 
 use relay_settings::Common;
 
@@ -25,7 +25,7 @@ pub struct Pace {
 impl Pace {
     ghost use Rattle.std.specs.Prelude.{ℕ, ◌≡◌, ◌<◌, ◌≤◌, ◌*◌, ◌-◌, ◌^◌, suc, nat_le, IsTrue};
     ghost use Rattle.relay_settings.specs.declared.types.Common.{Common};
-    ghost use Rattle.relay_settings.specs.Samples.{samples};
+    ghost use Rattle.relay_settings.specs.Times.{samples};
     ghost use Rattle.goose_publish.specs.Offsets.{offset_ms};
     ghost use Rattle.goose_publish.specs.Paces.{IsAt, Passed};
 

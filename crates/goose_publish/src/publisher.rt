@@ -26,7 +26,7 @@ impl Publisher {
     ghost use Rattle.relay_settings.specs.Ranges.{IsCommon, IsGoose};
     ghost use Rattle.goose_publish.specs.Publishing.{PointsTake, take_of, RisesTo, send_of};
     ghost use Rattle.goose_publish.specs.Sends.{IsSentAt};
-    ghost use Rattle.goose_publish.specs.Frame.{fields_bytes, frame_bytes};
+    ghost use Rattle.goose_publish.specs.GooseFrame.{fields_bytes, frame_bytes};
     ghost use Rattle.goose_publish.specs.FrameEnds.{EndsAtItsLength};
     ghost use Rattle.goose_publish.specs.Publishers.{HasSettings, StandsFor};
 

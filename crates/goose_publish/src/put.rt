@@ -2,7 +2,7 @@
 ghost use Rattle.std.specs.Prelude.{◌≡◌, ◌+◌, ◌<◌, ◌≤◌, ◌++◌, length};
 ghost use Rattle.byteorder.specs.Endian.{big_bytes};
 ghost use Rattle.ber_fields.specs.Written.{field, head_text, shortest, truth};
-ghost use Rattle.goose_publish.specs.Frame.{quality_field};
+ghost use Rattle.goose_publish.specs.GooseFrame.{quality_field};
 
 use crate::tags;
 use arrayvec::ArrayVec;

@@ -10,7 +10,7 @@ use Rattle.sv_frame.specs.Asdu.{PlainAsdu}
 use Rattle.event_record.specs.declared.time.At.{At}
 use Rattle.event_record.specs.Time.{time_of}
 use Rattle.loop_impedance.specs.Loops.{item}
-use Rattle.line_relay.specs.Samples.{Numbered, number_of_sample}
+use Rattle.line_relay.specs.LineSamples.{Numbered, number_of_sample}
 use Rattle.line_relay.specs.Phasors.{phasors_of, phasor_of, eight}
 use Rattle.line_relay.specs.Outcomes.{number_taken, taken_samples, outcome_of}
 use Rattle.line_relay.specs.declared.front.Step.{Step}

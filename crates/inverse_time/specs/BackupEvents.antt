@@ -5,7 +5,7 @@ use Rattle.relay_settings.specs.Settings.{PlainLine}
 use Rattle.sv_frame.specs.Asdu.{PlainAsdu}
 use Rattle.event_record.specs.declared.time.At.{At}
 use Rattle.event_record.specs.Time.{time_of}
-use Rattle.line_relay.specs.Samples.{Numbered}
+use Rattle.line_relay.specs.LineSamples.{Numbered}
 use Rattle.line_relay.specs.Outcomes.{number_taken, outcome_of, taken_samples}
 use Rattle.inverse_time.specs.declared.curve.Dial.{Dial}
 use Rattle.inverse_time.specs.declared.event.BackupWhat.{BackupWhat}

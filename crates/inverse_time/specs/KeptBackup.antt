@@ -3,7 +3,7 @@ use Rattle.std.specs.Prelude.{ℕ, ◌≡◌, List, Option}
 use Rattle.relay_settings.specs.declared.types.Common.{Common}
 use Rattle.relay_settings.specs.Settings.{PlainLine}
 use Rattle.sv_frame.specs.Asdu.{PlainAsdu}
-use Rattle.line_relay.specs.Samples.{Numbered}
+use Rattle.line_relay.specs.LineSamples.{Numbered}
 use Rattle.line_relay.specs.Outcomes.{taken_samples}
 use Rattle.line_relay.specs.Fronts.{last_of as last_of_front, StandsFor as FrontStandsFor}
 use Rattle.inverse_time.specs.declared.curve.Dial.{Dial}

@@ -6,7 +6,7 @@ use Rattle.std.specs.List.{sum}
 use Rattle.sample_windows.specs.Numbered.{of_run}
 use Rattle.relay_settings.specs.declared.types.Common.{Common}
 use Rattle.relay_settings.specs.Settings.{PlainLine}
-use Rattle.line_relay.specs.Samples.{Numbered, number_of_sample}
+use Rattle.line_relay.specs.LineSamples.{Numbered, number_of_sample}
 use Rattle.line_relay.specs.Phasors.{phasor_of}
 use Rattle.line_relay.specs.Guards.{is_ready_at}
 use Rattle.inverse_time.specs.declared.curve.Dial.{Dial}

@@ -23,9 +23,9 @@ use Rattle.mimic_filter.specs.Mimic.{filtered, filtered_lanes}
 use Rattle.sample_windows.specs.Windows.{at_each}
 use Rattle.sample_windows.proofs.WindowLemmas.{length-at_each}
 use Rattle.relay_settings.specs.declared.types.Mimic.{Mimic}
-use Rattle.line_relay.specs.Samples.{newest_of, Numbered, number_of_sample, good_now, values_now, is_ready, needed}
+use Rattle.line_relay.specs.LineSamples.{newest_of, Numbered, number_of_sample, good_now, values_now, is_ready, needed}
 use Rattle.line_relay.specs.Phasors.{filtered_at, sum_below, cycle_sum, phasor_of, phasors_of, eight}
-use Rattle.line_relay.specs.Windows.{next_after, lanes_now, window, kept_now, filter_after, lanes_after}
+use Rattle.line_relay.specs.KeptSamples.{next_after, lanes_now, window, kept_now, filter_after, lanes_after}
 use Rattle.cycle_phasor.specs.Window.{window_with}
 
 module _ {X : Type 0} where

@@ -7,8 +7,8 @@ use Rattle.relay_num.proofs.Signed.{signed, one_part}
 use Rattle.relay_num.specs.Numbers.{floor_div}
 use Rattle.relay_settings.specs.Ranges.{IsWhole}
 use Rattle.relay_num.specs.Bounds.{AllBelow}
-use Rattle.line_relay.specs.Samples.{Numbered}
-use Rattle.line_relay.specs.Windows.{kept_now}
+use Rattle.line_relay.specs.LineSamples.{Numbered}
+use Rattle.line_relay.specs.KeptSamples.{kept_now}
 use Rattle.mimic_filter.specs.Mimic.{filtered, filtered_lanes}
 
 limited_below : (z : ℤ) → unsigned_abs (int_max (int_min z (pos 268435455)) (neg_ℤ (pos 268435455))) < 2 ^ 28

@@ -23,7 +23,7 @@ use Rattle.sample_stream.specs.Samples.{is_good, used_values}
 use Rattle.line_relay.specs.declared.front.Outcome.{Outcome}
 use Rattle.line_relay.specs.declared.front.Outcome.TheVariants.{ConfRev, Length, Counter}
 use Rattle.line_relay.specs.declared.front.Step.{Step}
-use Rattle.line_relay.specs.Samples.{Numbered, number_of_sample, newest_of, good_now, values_now, needed, is_ready}
+use Rattle.line_relay.specs.LineSamples.{Numbered, number_of_sample, newest_of, good_now, values_now, needed, is_ready}
 use Rattle.relay_num.specs.Bounds.{is_cycle}
 use Rattle.line_relay.proofs.CycleLemmas.{AllEight}
 use Rattle.line_relay.specs.Outcomes.{number_taken, sample_in, with_sample, outcome_of, taken_samples, taken_number}

@@ -12,7 +12,7 @@ use Rattle.relay_settings.specs.Settings.{PlainLine}
 use Rattle.loop_impedance.specs.Loops.{item}
 use Rattle.loop_impedance.specs.Masks.{loop_mask, has_bit}
 use Rattle.loop_impedance.proofs.MaskLemmas.{has_bit-loop_mask, loop_mask-same}
-use Rattle.zone_timers.specs.Masks.{zone_masks}
+use Rattle.zone_timers.specs.ZoneMasks.{zone_masks}
 use Rattle.direction.specs.Torques.{direction_of}
 use Rattle.direction.specs.declared.Sense.{Sense}
 use Rattle.direction.specs.declared.Sense.TheVariants.{Neither}

@@ -5,7 +5,7 @@ use Rattle.relay_settings.specs.declared.types.Common.{Common}
 use Rattle.relay_settings.specs.Settings.{PlainLine}
 use Rattle.sv_frame.specs.Asdu.{PlainAsdu}
 use Rattle.event_record.specs.Time.{time_of}
-use Rattle.line_relay.specs.Samples.{Numbered, newest_of}
+use Rattle.line_relay.specs.LineSamples.{Numbered, newest_of}
 use Rattle.line_relay.specs.Facts.{facts_of}
 use Rattle.line_relay.specs.Outcomes.{number_taken, with_sample, outcome_after, taken_samples, outcome_of}
 use Rattle.line_relay.specs.Events.{arrival, changes, told}

@@ -10,7 +10,7 @@ use Rattle.event_record.specs.declared.event.Event.{Event}
 use Rattle.event_record.specs.Time.{time_of}
 use Rattle.goose_publish.specs.declared.points.Send.{Send}
 use Rattle.line_relay.specs.declared.front.Outcome.{Outcome}
-use Rattle.line_relay.specs.Samples.{Numbered, newest_of, is_ready}
+use Rattle.line_relay.specs.LineSamples.{Numbered, newest_of, is_ready}
 use Rattle.line_relay.specs.Phasors.{phasors_of, phasor_of, eight}
 use Rattle.line_relay.specs.declared.front.Step.{Step}
 use Rattle.line_relay.specs.Outcomes.{number_taken, sample_in, with_sample, taken_samples, taken_number, outcome_of}

@@ -15,7 +15,7 @@ use Rattle.relay_settings.specs.declared.types.Common.{Common}
 use Rattle.relay_settings.specs.declared.types.SwingSettings.{SwingSettings}
 use Rattle.relay_settings.specs.declared.types.FuseSettings.{FuseSettings}
 use Rattle.relay_settings.specs.Settings.{PlainLine}
-use Rattle.relay_settings.specs.Samples.{samples}
+use Rattle.relay_settings.specs.Times.{samples}
 use Rattle.memory_volt.specs.Polarising.{polarising}
 use Rattle.memory_volt.proofs.NumberedLemmas.{polarising_numbered}
 use Rattle.swing_block.specs.Swinging.{SwingTake, is_swing}
@@ -26,14 +26,14 @@ use Rattle.supervise.specs.Fusing.{FuseTake, is_blown}
 use Rattle.supervise.specs.KeptFuse.{StandsFor as StandsForFuse}
 use Rattle.supervise.specs.declared.fuse.Fuse.{Fuse}
 use Rattle.supervise.proofs.NumberedFuseLemmas.{is_blown_numbered}
-use Rattle.zone_timers.specs.Masks.{zone_masks}
+use Rattle.zone_timers.specs.ZoneMasks.{zone_masks}
 use Rattle.zone_timers.specs.Operate.{operated_masks}
 use Rattle.zone_timers.proofs.OperateLemmas.{operates_numbered}
 use Rattle.trip_logic.specs.Takes.{take_of as trip_take_of}
 use Rattle.loop_impedance.specs.Masks.{mask, loop_mask}
 use Rattle.goose_publish.specs.Publishing.{RisesTo}
 use Rattle.line_relay.specs.declared.measured.Measured.{Measured}
-use Rattle.line_relay.specs.Samples.{Numbered, number_of_sample, good_now, needed}
+use Rattle.line_relay.specs.LineSamples.{Numbered, number_of_sample, good_now, needed}
 use Rattle.line_relay.specs.Guards.{is_ready_at, measured_at, is_low_at, plus_voltage_at, polarising_at, is_swing_by, is_swing_at, is_blown_by, is_blown_at, swing_place, is_unbalanced_at, has_negative_voltage, has_no_negative_current}
 use Rattle.line_relay.specs.Inside.{is_inside, holds_of}
 use Rattle.line_relay.specs.Operate.{is_inside_at, ground_delays, phase_delays, operates_at, trips_at, is_dead_at, is_without_current}

@@ -9,7 +9,7 @@ use Rattle.event_record.specs.declared.event.Event.{Event}
 use Rattle.event_record.specs.Time.{time_of}
 use Rattle.goose_publish.specs.declared.points.Send.{Send}
 use Rattle.line_relay.specs.declared.burst.Burst.{Burst}
-use Rattle.line_relay.specs.Samples.{Numbered}
+use Rattle.line_relay.specs.LineSamples.{Numbered}
 use Rattle.line_relay.specs.Facts.{Facts, facts_of}
 use Rattle.line_relay.specs.Outcomes.{number_taken, taken_samples, taken_number, outcome_of}
 use Rattle.line_relay.specs.Events.{arrival, changes, told}

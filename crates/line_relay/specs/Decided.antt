@@ -3,7 +3,7 @@ use Rattle.std.specs.Prelude.{ℕ, Bool, false, ◌&&◌, ◌||◌, List, Option
 use Rattle.relay_settings.specs.declared.types.ZoneSettings.{ZoneSettings}
 use Rattle.relay_settings.specs.Settings.{PlainLine}
 use Rattle.relay_num.specs.declared.Cx.{Cx}
-use Rattle.zone_timers.specs.Masks.{zone_masks}
+use Rattle.zone_timers.specs.ZoneMasks.{zone_masks}
 use Rattle.line_relay.specs.declared.measured.Measured.{Measured}
 use Rattle.line_relay.specs.Inside.{is_inside, holds_of}
 use Rattle.line_relay.specs.Operate.{is_without_current}

@@ -3,7 +3,7 @@ use Rattle.std.specs.Prelude.{ℕ, Bool, List}
 use Rattle.relay_settings.specs.declared.types.Common.{Common}
 use Rattle.relay_settings.specs.Settings.{PlainLine}
 use Rattle.zone_timers.specs.NumberedOperate.{inside_masks, operates_masks}
-use Rattle.line_relay.specs.Samples.{Numbered, number_of_sample}
+use Rattle.line_relay.specs.LineSamples.{Numbered, number_of_sample}
 use Rattle.line_relay.specs.Guards.{is_ready_at, is_swing_at, is_blown_at}
 use Rattle.line_relay.specs.Operate.{is_inside_at, ground_delays, phase_delays, is_tripped_at}
 

@@ -5,7 +5,7 @@ use Rattle.relay_settings.specs.Settings.{PlainLine}
 use Rattle.sv_frame.specs.Asdu.{PlainAsdu}
 use Rattle.sample_stream.specs.Numbering.{last_of as last_of_numberer, rate_of}
 use Rattle.line_relay.specs.declared.front.Front.{Front}
-use Rattle.line_relay.specs.Windows.{window, kept_now}
+use Rattle.line_relay.specs.KeptSamples.{window, kept_now}
 use Rattle.line_relay.specs.Outcomes.{taken_samples, taken_number}
 
 -- the last number of a front

@@ -7,14 +7,14 @@ use Rattle.relay_settings.specs.declared.types.Common.{Common}
 use Rattle.relay_settings.specs.declared.types.SwingSettings.{SwingSettings}
 use Rattle.relay_settings.specs.declared.types.FuseSettings.{FuseSettings}
 use Rattle.relay_settings.specs.Settings.{PlainLine}
-use Rattle.relay_settings.specs.Samples.{samples}
+use Rattle.relay_settings.specs.Times.{samples}
 use Rattle.memory_volt.specs.NumberedPolarising.{polarising_at as voltage_that_polarises}
 use Rattle.swing_block.specs.NumberedSwing.{is_swing_at as swings_at}
 use Rattle.swing_block.specs.Blinders.{place_of, is_unbalanced}
 use Rattle.swing_block.specs.declared.blinders.SwingPlace.{SwingPlace}
 use Rattle.supervise.specs.NumberedFuse.{is_blown_at as blown_at}
 use Rattle.line_relay.specs.declared.measured.Measured.{Measured}
-use Rattle.line_relay.specs.Samples.{Numbered, number_of_sample, is_ready}
+use Rattle.line_relay.specs.LineSamples.{Numbered, number_of_sample, is_ready}
 use Rattle.line_relay.specs.Phasors.{phasor_of, eight}
 use Rattle.line_relay.specs.Measured.{measured}
 

@@ -6,7 +6,7 @@ use Rattle.relay_settings.specs.declared.types.Common.{Common}
 use Rattle.relay_settings.specs.declared.types.SwingSettings.{SwingSettings}
 use Rattle.relay_settings.specs.declared.types.FuseSettings.{FuseSettings}
 use Rattle.relay_settings.specs.Settings.{PlainLine, plain_line}
-use Rattle.relay_settings.specs.Samples.{samples}
+use Rattle.relay_settings.specs.Times.{samples}
 use Rattle.sv_frame.specs.Asdu.{PlainAsdu}
 use Rattle.memory_volt.specs.Polarising.{VoltTake}
 use Rattle.memory_volt.specs.KeptMemory.{StandsFor as MemoryStandsFor}
@@ -25,7 +25,7 @@ use Rattle.goose_publish.specs.declared.publisher.Publisher.{Publisher}
 use Rattle.line_relay.specs.declared.line.Line.{Line}
 use Rattle.line_relay.specs.declared.shown.Shown.{Shown}
 use Rattle.line_relay.specs.Shown.{facts_shown}
-use Rattle.line_relay.specs.Samples.{Numbered, number_of_sample}
+use Rattle.line_relay.specs.LineSamples.{Numbered, number_of_sample}
 use Rattle.line_relay.specs.Outcomes.{taken_samples}
 use Rattle.line_relay.specs.Guards.{is_ready_at, measured_at}
 use Rattle.line_relay.specs.Operate.{ground_delays, phase_delays, trips_at, is_dead_at}

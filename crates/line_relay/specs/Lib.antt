@@ -1,8 +1,8 @@
-pub mod Samples
+pub mod LineSamples
 pub mod Phasors
 pub mod Outcomes
 pub mod Steps
-pub mod Windows
+pub mod KeptSamples
 pub mod Fronts
 pub mod Measured
 pub mod Guards

@@ -4,7 +4,7 @@ use Rattle.sample_windows.specs.Numbered.{Rises}
 use Rattle.relay_settings.specs.declared.types.Common.{Common}
 use Rattle.relay_settings.specs.Settings.{PlainLine}
 use Rattle.line_relay.specs.declared.measured.Measured.{Measured}
-use Rattle.line_relay.specs.Samples.{Numbered, number_of_sample}
+use Rattle.line_relay.specs.LineSamples.{Numbered, number_of_sample}
 use Rattle.line_relay.specs.Guards.{is_ready_at, measured_at}
 use Rattle.line_relay.specs.KeptLine.{Kept, HoldsFor}
 

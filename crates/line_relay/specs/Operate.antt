@@ -8,12 +8,12 @@ use Rattle.relay_settings.specs.declared.types.Common.{Common}
 use Rattle.relay_settings.specs.declared.types.ZonePart.{ZonePart}
 use Rattle.relay_settings.specs.declared.types.ZoneSettings.{ZoneSettings}
 use Rattle.relay_settings.specs.Settings.{PlainLine}
-use Rattle.relay_settings.specs.Samples.{samples}
+use Rattle.relay_settings.specs.Times.{samples}
 use Rattle.loop_impedance.specs.Loops.{item}
 use Rattle.zone_timers.specs.NumberedOperate.{operates_at as operates_by_number}
 use Rattle.trip_logic.specs.Seal.{stands}
 use Rattle.line_relay.specs.declared.measured.Measured.{Measured}
-use Rattle.line_relay.specs.Samples.{Numbered, number_of_sample}
+use Rattle.line_relay.specs.LineSamples.{Numbered, number_of_sample}
 use Rattle.line_relay.specs.Guards.{is_ready_at, measured_at, polarising_at, is_swing_at, is_blown_at}
 use Rattle.line_relay.specs.Inside.{is_inside, holds_of}
 

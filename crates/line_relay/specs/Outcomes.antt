@@ -10,7 +10,7 @@ use Rattle.sample_stream.specs.Samples.{sample_from}
 use Rattle.sample_stream.specs.Taken.{number_of}
 use Rattle.line_relay.specs.declared.front.Outcome.{Outcome}
 use Rattle.line_relay.specs.declared.front.Outcome.TheVariants.{ConfRev, Length, Counter}
-use Rattle.line_relay.specs.Samples.{Numbered, newest_of}
+use Rattle.line_relay.specs.LineSamples.{Numbered, newest_of}
 
 -- the number that an outcome gives its sample, where it is taken
 abbrev pub number_taken : Outcome → Option ℕ

@@ -7,7 +7,7 @@ use Rattle.relay_num.specs.WeightedSums.{lane, real_weight, imaginary_weight}
 use Rattle.relay_num.specs.declared.Cx.{Cx}
 use Rattle.relay_settings.specs.declared.types.Mimic.{Mimic}
 use Rattle.mimic_filter.specs.Mimic.{filtered}
-use Rattle.line_relay.specs.Samples.{Numbered, number_of_sample, values_now, is_ready}
+use Rattle.line_relay.specs.LineSamples.{Numbered, number_of_sample, values_now, is_ready}
 
 -- the value of a channel at the sample with the number j
 abbrev pub value_at : ℕ → List Numbered → ℕ → ℤ

@@ -8,7 +8,7 @@ use Rattle.loop_impedance.specs.Masks.{mask}
 use Rattle.goose_publish.specs.declared.points.Points.{Points}
 use Rattle.goose_publish.specs.declared.points.Send.{Send}
 use Rattle.goose_publish.specs.Publishing.{PointsTake, take_of, send_of}
-use Rattle.line_relay.specs.Samples.{Numbered, number_of_sample}
+use Rattle.line_relay.specs.LineSamples.{Numbered, number_of_sample}
 use Rattle.line_relay.specs.Facts.{Facts, facts_of}
 
 -- whether a zone's mask has some loop

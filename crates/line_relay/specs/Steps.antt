@@ -5,7 +5,7 @@ use Rattle.relay_settings.specs.Settings.{PlainLine}
 use Rattle.sv_frame.specs.Asdu.{PlainAsdu}
 use Rattle.line_relay.specs.declared.front.Outcome.{Outcome}
 use Rattle.line_relay.specs.declared.front.Step.{Step}
-use Rattle.line_relay.specs.Samples.{Numbered}
+use Rattle.line_relay.specs.LineSamples.{Numbered}
 use Rattle.line_relay.specs.Phasors.{phasors_of}
 use Rattle.line_relay.specs.Outcomes.{number_taken, sample_in, outcome_of, taken_samples}
 

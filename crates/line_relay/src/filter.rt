@@ -4,7 +4,7 @@ ghost use Rattle.std.specs.Option.{ForSome};
 ghost use Rattle.relay_num.specs.Bounds.{AllBelow};
 ghost use Rattle.cycle_phasor.specs.Sliding.{values_left};
 ghost use Rattle.relay_settings.specs.Ranges.{IsMimic};
-ghost use Rattle.line_relay.specs.Windows.{lanes_after, kept_values};
+ghost use Rattle.line_relay.specs.KeptSamples.{lanes_after, kept_values};
 
 use mimic_filter::mimic8;
 use relay_settings::Mimic;

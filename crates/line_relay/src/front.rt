@@ -5,7 +5,7 @@ ghost use Rattle.relay_num.specs.Bounds.{AllBelow, is_cycle};
 ghost use Rattle.cycle_phasor.specs.Sliding.{values_left};
 ghost use Rattle.cycle_phasor.specs.Window.{IsSliding};
 ghost use Rattle.relay_settings.specs.Ranges.{IsMimic};
-ghost use Rattle.line_relay.specs.Windows.{next_after};
+ghost use Rattle.line_relay.specs.KeptSamples.{next_after};
 
 use crate::filter::{filtered, keep};
 use cycle_phasor::{Slider, take_values};

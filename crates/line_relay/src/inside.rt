@@ -8,7 +8,7 @@ ghost use Rattle.relay_settings.specs.declared.types.Shape.TheVariants.{Mho, Qua
 ghost use Rattle.relay_settings.specs.Ranges.{IsLine, IsZone, IsZonePart, IsQuad};
 ghost use Rattle.relay_settings.specs.Settings.{plain_line};
 ghost use Rattle.loop_impedance.specs.Masks.{mask, loop_mask};
-ghost use Rattle.zone_timers.specs.Masks.{zone_masks};
+ghost use Rattle.zone_timers.specs.ZoneMasks.{zone_masks};
 ghost use Rattle.line_relay.specs.Inside.{holds_of};
 ghost use Rattle.line_relay.specs.Decided.{inside_masks_by};
 ghost use Rattle.line_relay.specs.Measured.{measured};

@@ -17,7 +17,7 @@
 //! The definition is scalar, over the list of all sample sets of the line so far, the newest first, and forms
 //! each fact anew. Read it in this order:
 //!
-//! - `specs/Outcomes`, `specs/Samples`: which sample sets are taken, and which samples are ready;
+//! - `specs/Outcomes`, `specs/LineSamples`: which sample sets are taken, and which samples are ready;
 //! - `specs/Phasors`, `specs/Measured`: the phasors of the last whole cycle, and what is formed of them;
 //! - `specs/Guards`: the polarising voltage, power swing (68) and fuse failure (60FL);
 //! - `specs/Inside`, `specs/Operate`: all that a zone asks of a loop, its delay, and the trip;

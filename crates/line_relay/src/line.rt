@@ -64,8 +64,8 @@ impl Line {
     ghost use Rattle.sv_frame.specs.Asdu.{PlainAsdu, plain_asdu};
     ghost use Rattle.event_record.specs.Printable.{IsPrintable};
     ghost use Rattle.event_record.specs.Time.{time_of};
-    ghost use Rattle.goose_publish.specs.Frame.{frame_bytes};
-    ghost use Rattle.line_relay.specs.Samples.{Numbered};
+    ghost use Rattle.goose_publish.specs.GooseFrame.{frame_bytes};
+    ghost use Rattle.line_relay.specs.LineSamples.{Numbered};
     ghost use Rattle.line_relay.specs.Outcomes.{taken_number};
     ghost use Rattle.line_relay.specs.Events.{changes, told};
     ghost use Rattle.line_relay.specs.Facts.{facts_of};

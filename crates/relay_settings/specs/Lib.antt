@@ -1,3 +1,3 @@
-pub mod Samples
+pub mod Times
 pub mod Settings
 pub mod Ranges

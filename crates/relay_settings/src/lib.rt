@@ -4,7 +4,7 @@
 //! currents are primary rms counts of 1 mA, voltages primary rms counts of 10 mV, times with the
 //! ending `_ms` milliseconds, and factors and shares thousandths. A zone has a part for the ground
 //! loops, a part for the phase loops, or both. `specs/Ranges.antt` has the range of each field,
-//! `specs/Settings.antt` the settings as plain data, and `specs/Samples.antt` the samples that a time
+//! `specs/Settings.antt` the settings as plain data, and `specs/Times.antt` the samples that a time
 //! makes. Stands on `relay_num` for complex numbers and on `arrayvec` for short texts and lists.
 #![tactic(auto)]
 

@@ -1,6 +1,6 @@
 //! Times in samples.
 ghost use Rattle.std.specs.Prelude.{◌≡◌, ◌≤◌};
-ghost use Rattle.relay_settings.specs.Samples.{samples};
+ghost use Rattle.relay_settings.specs.Times.{samples};
 
 /// `ms` milliseconds of a setting in samples, at `rate` samples a second: the least number of samples
 /// that lasts as long.

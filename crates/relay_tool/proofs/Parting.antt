@@ -23,7 +23,7 @@ use Rattle.station.specs.Told.{tells_by}
 use Rattle.settings_read.specs.SettingsLaws.{LinesDiffer}
 use Rattle.settings_read.proofs.AcceptedFacts.{accepted-differ}
 use Rattle.relay_tool.specs.Output.{Item, Tells, event_item, send_items, items_of, malformed_item, burst_items, told_items, heard_items, solo, reading, sets_of, frame_items, heard, items_from, out}
-use Rattle.relay_tool.specs.Parts.{is_of, part, part_of, own_of, sample_sets, IsLineOf, AcceptedAreApart, PartsAreEqual, MalformedAddsItsLine}
+use Rattle.relay_tool.specs.LineParts.{is_of, part, part_of, own_of, sample_sets, IsLineOf, AcceptedAreApart, PartsAreEqual, MalformedAddsItsLine}
 
 -- ---- by records
 

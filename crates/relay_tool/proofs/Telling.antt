@@ -11,7 +11,7 @@ use Rattle.event_record.specs.declared.event.Event.{Event}
 use Rattle.event_record.specs.Time.{time_of}
 use Rattle.event_record.specs.declared.time.At.{At}
 use Rattle.goose_publish.specs.declared.points.Send.{Send}
-use Rattle.goose_publish.specs.Frame.{frame_bytes}
+use Rattle.goose_publish.specs.GooseFrame.{frame_bytes}
 use Rattle.line_relay.specs.Bursts.{PlainBurst}
 use Rattle.line_bank.specs.Owners.{owner, own}
 use Rattle.line_bank.specs.Banks.{told_by}

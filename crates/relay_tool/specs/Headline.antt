@@ -12,7 +12,7 @@ use Rattle.relay_tool.specs.Endings.{status_of}
 use Rattle.relay_tool.specs.Words.{Names, replay, form}
 use Rattle.settings_read.specs.Accepted.{accepted}
 use Rattle.relay_tool.specs.Output.{heard_items, out}
-use Rattle.relay_tool.specs.Parts.{LinesAreApart, MalformedAddsItsLine}
+use Rattle.relay_tool.specs.LineParts.{LinesAreApart, MalformedAddsItsLine}
 use Rattle.relay_tool.specs.Run.{content_of, ending_at, most_capture}
 use Rattle.relay_tool.specs.Files.{written}
 

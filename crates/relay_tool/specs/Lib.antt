@@ -3,7 +3,7 @@ pub mod Ends
 pub mod Words
 pub mod Asking
 pub mod Output
-pub mod Parts
+pub mod LineParts
 pub mod Tallies
 pub mod KeptTally
 pub mod Run

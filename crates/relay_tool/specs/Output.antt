@@ -13,7 +13,7 @@ use Rattle.event_record.specs.Line.{line_text}
 use Rattle.event_record.specs.Time.{time_of}
 use Rattle.event_record.specs.declared.time.At.{At}
 use Rattle.goose_publish.specs.declared.points.Send.{Send}
-use Rattle.goose_publish.specs.Frame.{frame_bytes}
+use Rattle.goose_publish.specs.GooseFrame.{frame_bytes}
 use Rattle.capture_feed.specs.Written.{record_bytes}
 use Rattle.line_relay.specs.Bursts.{PlainBurst, burst}
 use Rattle.station.specs.Told.{Told, told}

@@ -1,6 +1,6 @@
 //! What holds of the scalar definition alone.
 ghost use Rattle.relay_tool.specs.Output.{Tells};
-ghost use Rattle.relay_tool.specs.Parts.{AcceptedAreApart, PartsAreEqual, MalformedAddsItsLine};
+ghost use Rattle.relay_tool.specs.LineParts.{AcceptedAreApart, PartsAreEqual, MalformedAddsItsLine};
 
 /// Law: a line's part of what is written is what its own sample sets alone would give, for every line of
 /// every accepted settings file and every capture.

@@ -9,7 +9,7 @@ use Rattle.sample_windows.proofs.BelowLemmas.{any_below_same}
 use Rattle.sample_windows.proofs.NumberedLemmas.{up_to-in_run, held_for-run}
 use Rattle.sample_windows.proofs.RunLemmas.{of_run-next, of_run-gap, of_run-none, of_run-drop}
 use Rattle.relay_settings.specs.declared.types.FuseSettings.{FuseSettings}
-use Rattle.relay_settings.specs.Samples.{samples}
+use Rattle.relay_settings.specs.Times.{samples}
 use Rattle.supervise.specs.Fusing.{FuseTake, suspect_now, low_now, counts_as_blown, is_blown}
 use Rattle.supervise.specs.NumberedFuse.{is_suspect_at, suspect_from, counts_as_blown_at, is_blown_at, fuse_take}
 

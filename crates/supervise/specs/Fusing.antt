@@ -3,7 +3,7 @@
 use Rattle.std.specs.Prelude.{ℕ, Bool, false, ◌&&◌, List, [], ◌∷◌, drop}
 use Rattle.sample_windows.specs.Below.{any_below}
 use Rattle.relay_settings.specs.declared.types.FuseSettings.{FuseSettings}
-use Rattle.relay_settings.specs.Samples.{samples}
+use Rattle.relay_settings.specs.Times.{samples}
 
 -- what a take says: whether the voltage has negative sequence, and whether the current has none
 pub record FuseTake : Type 0 where

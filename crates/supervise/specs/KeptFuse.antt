@@ -2,7 +2,7 @@
 use Rattle.std.specs.Prelude.{ℕ, ◌≡◌, ◌-◌, List, drop}
 use Rattle.sample_windows.specs.Below.{least_below}
 use Rattle.relay_settings.specs.declared.types.FuseSettings.{FuseSettings}
-use Rattle.relay_settings.specs.Samples.{samples}
+use Rattle.relay_settings.specs.Times.{samples}
 use Rattle.supervise.specs.Fusing.{FuseTake, suspect_now}
 use Rattle.supervise.specs.declared.fuse.Fuse.{Fuse}
 

@@ -4,7 +4,7 @@ use Rattle.std.specs.Prelude.{ℕ, ◌≡◌, suc, ◌-◌, Bool, false, ◌&&�
 use Rattle.sample_windows.specs.Below.{any_below}
 use Rattle.sample_windows.specs.Numbered.{newest_number, up_to, Rises, held_for, of_run}
 use Rattle.relay_settings.specs.declared.types.FuseSettings.{FuseSettings}
-use Rattle.relay_settings.specs.Samples.{samples}
+use Rattle.relay_settings.specs.Times.{samples}
 use Rattle.supervise.specs.Fusing.{FuseTake, take_of, is_blown}
 
 module _ {X : Type 0} (number : X → ℕ) (ready u2_high i2_low : List X → Bool) where

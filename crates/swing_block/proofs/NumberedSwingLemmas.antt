@@ -6,7 +6,7 @@ use Rattle.sample_windows.specs.Numbered.{newest_number, Rises, of_run}
 use Rattle.sample_windows.proofs.BelowLemmas.{any_below_same, greatest_below_same}
 use Rattle.sample_windows.proofs.RunLemmas.{of_run-next, of_run-gap, of_run-none, run_of-within, run_of-within-le, held_for-within}
 use Rattle.relay_settings.specs.declared.types.SwingSettings.{SwingSettings}
-use Rattle.relay_settings.specs.Samples.{samples}
+use Rattle.relay_settings.specs.Times.{samples}
 use Rattle.swing_block.specs.declared.blinders.SwingPlace.{SwingPlace}
 use Rattle.swing_block.specs.Swinging.{SwingTake, is_between, is_within, is_declared, was_declared, first_declared, unbalanced_now, blocks, is_swing}
 use Rattle.swing_block.specs.NumberedSwing.{run_at, declared_at, blocks_at, is_swing_at, swing_take}

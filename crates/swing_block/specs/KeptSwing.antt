@@ -2,7 +2,7 @@
 use Rattle.std.specs.Prelude.{ℕ, ◌≡◌, min, List, Option, Some, None, if◌then◌else◌}
 use Rattle.std.specs.List.{prefix_len}
 use Rattle.relay_settings.specs.declared.types.SwingSettings.{SwingSettings}
-use Rattle.relay_settings.specs.Samples.{samples}
+use Rattle.relay_settings.specs.Times.{samples}
 use Rattle.swing_block.specs.Swinging.{SwingTake, is_between, was_declared, first_declared}
 use Rattle.swing_block.specs.declared.swing.Swing.{Swing}
 

@@ -4,7 +4,7 @@ use Rattle.std.specs.Prelude.{ℕ, ◌≡◌, ◌-◌, nat_lt, Bool, false, not,
 use Rattle.sample_windows.specs.Below.{any_below, greatest_below}
 use Rattle.sample_windows.specs.Numbered.{newest_number, up_to, Rises, held_for, run_of, of_run}
 use Rattle.relay_settings.specs.declared.types.SwingSettings.{SwingSettings}
-use Rattle.relay_settings.specs.Samples.{samples}
+use Rattle.relay_settings.specs.Times.{samples}
 use Rattle.swing_block.specs.declared.blinders.SwingPlace.{SwingPlace}
 use Rattle.swing_block.specs.Swinging.{SwingTake, take_of, is_between, is_within, is_swing}
 

@@ -5,7 +5,7 @@ use Rattle.std.specs.List.{prefix_len}
 use Rattle.sample_windows.specs.Below.{any_below, greatest_below}
 use Rattle.sample_windows.specs.Windows.{each_of_last}
 use Rattle.relay_settings.specs.declared.types.SwingSettings.{SwingSettings}
-use Rattle.relay_settings.specs.Samples.{samples}
+use Rattle.relay_settings.specs.Times.{samples}
 use Rattle.swing_block.specs.declared.blinders.SwingPlace.{SwingPlace}
 use Rattle.swing_block.specs.declared.blinders.SwingPlace.TheVariants.{Outside, Between, Inner}
 

@@ -24,7 +24,7 @@ impl Swing {
     ghost use Rattle.std.specs.Prelude.{ℕ, Bool, ◌≡◌, ◌⊎◌, ◌&&◌, nat_lt, ◌∷◌, List, []};
     ghost use Rattle.relay_settings.specs.declared.types.SwingSettings.{SwingSettings};
     ghost use Rattle.relay_settings.specs.Ranges.{IsSwing};
-    ghost use Rattle.relay_settings.specs.Samples.{samples};
+    ghost use Rattle.relay_settings.specs.Times.{samples};
     ghost use Rattle.swing_block.specs.Swinging.{SwingTake, take_of, was_declared, first_declared, is_swing};
     ghost use Rattle.swing_block.specs.KeptSwing.{StandsFor};
 

@@ -5,7 +5,7 @@ use Rattle.sample_windows.specs.Numbered.{Rises}
 use Rattle.sample_windows.proofs.NumberedLemmas.{held_for-at_each}
 use Rattle.loop_impedance.specs.Masks.{loop_mask}
 use Rattle.loop_impedance.proofs.MaskLemmas.{has_bit-loop_mask, loop_mask-same}
-use Rattle.zone_timers.specs.Masks.{has_loop, zone_masks}
+use Rattle.zone_timers.specs.ZoneMasks.{has_loop, zone_masks}
 use Rattle.zone_timers.specs.Operate.{delay_of, operates, operated_masks}
 use Rattle.zone_timers.specs.NumberedOperate.{operates_at, inside_masks, operates_masks}
 

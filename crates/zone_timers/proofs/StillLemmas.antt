@@ -3,7 +3,7 @@ use Rattle.std.proofs.Common.{◌≡◌, ℕ, ◌+◌, ◌<◌, Bool, false, con
 use Rattle.std.proofs.lemmas.Bool.{lt-leb}
 use Rattle.std.specs.List.{prefix_len}
 use Rattle.sample_windows.proofs.WindowLemmas.{each_of_last-run}
-use Rattle.zone_timers.specs.Masks.{has_loop}
+use Rattle.zone_timers.specs.ZoneMasks.{has_loop}
 use Rattle.zone_timers.specs.Operate.{delay_of, operates, operated_masks}
 use Rattle.zone_timers.proofs.OperateLemmas.{zone_masks-same, has_loop-zone_masks}
 

@@ -2,7 +2,7 @@
 -- was inside, or one more than the loop's delay where that is less.
 use Rattle.std.specs.Prelude.{ℕ, ◌≡◌, ◌+◌, ◌<◌, List, [], min, slice_index, slice_index_or}
 use Rattle.std.specs.List.{prefix_len}
-use Rattle.zone_timers.specs.Masks.{has_loop}
+use Rattle.zone_timers.specs.ZoneMasks.{has_loop}
 use Rattle.zone_timers.specs.Operate.{delay_of}
 use Rattle.zone_timers.specs.declared.Timers.{Timers}
 

@@ -1,4 +1,4 @@
-pub mod Masks
+pub mod ZoneMasks
 pub mod Operate
 pub mod NumberedOperate
 pub mod KeptTimers

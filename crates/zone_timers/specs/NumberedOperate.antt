@@ -3,7 +3,7 @@
 use Rattle.std.specs.Prelude.{ℕ, ◌≡◌, ◌≢◌, ◌+◌, Bool, false, List, [], ◌∷◌}
 use Rattle.sample_windows.specs.Windows.{at_each}
 use Rattle.sample_windows.specs.Numbered.{Rises, held_for}
-use Rattle.zone_timers.specs.Masks.{zone_masks}
+use Rattle.zone_timers.specs.ZoneMasks.{zone_masks}
 use Rattle.zone_timers.specs.Operate.{delay_of, operated_masks}
 
 module _ {X : Type 0} (number : X → ℕ) (inside : ℕ → ℕ → List X → Bool) where

@@ -2,7 +2,7 @@
 -- operates in a loop once it has seen the fault in that loop for the whole delay of the loop's part of the zone. Over
 -- all takes, the newest first; a take has a mask of loops for each zone.
 use Rattle.std.specs.Prelude.{ℕ, ◌+◌, nat_lt, Bool, if◌then◌else◌, List, slice_index}
-use Rattle.zone_timers.specs.Masks.{has_loop, zone_masks}
+use Rattle.zone_timers.specs.ZoneMasks.{has_loop, zone_masks}
 use Rattle.sample_windows.specs.Windows.{each_of_last}
 
 -- The delay of a loop in a zone: the ground part's for AG, BG and CG, the phase part's for AB, BC and CA.

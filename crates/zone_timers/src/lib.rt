@@ -11,7 +11,7 @@
 //! no loop is inside of no samples, nor at a sample that follows a gap, and the numbers rise.
 #![tactic(auto)]
 
-ghost use Rattle.std.specs.Prelude.{ℕ, ◌≡◌, ◌<◌, ◌≤◌, [], All, IsTrue, replicate, slice_index, slice_index_or};
+ghost use Rattle.std.specs.Prelude.{ℕ, ◌<◌, ◌≤◌, [], All, slice_index, slice_index_or};
 
 mod laws;
 #[cfg(test)]
@@ -28,9 +28,6 @@ pub struct Timers {
     /// One more than each loop's delay: a run that has come to it operates.
     ends: [[u32; 8]; 5],
     runs: [[u32; 8]; 5],
-    /// No loop is in a run, so that a healthy line's runs needn't be cleared at each take.
-    is_still: bool,
-    ghost still: { IsTrue is_still → runs ≡ replicate 5 (replicate 8 0) },
     ghost some: { (zone lp : ℕ) → zone < 5 → lp < 6 → 0 < slice_index (slice_index_or ends zone []) lp },
 }
 
@@ -49,7 +46,6 @@ impl Timers {
         Timers {
             ends: ends_of(ground_delays, phase_delays),
             runs: [[0; 8]; 5],
-            is_still: true,
         }
     }
 
@@ -68,7 +64,6 @@ impl Timers {
             self.clear();
             return [0; 5];
         }
-        self.is_still = false;
         take_zones(&self.ends, inside, &mut self.runs)
     }
 
@@ -77,9 +72,6 @@ impl Timers {
         ensures { (ground_delays phase_delays : List ℕ) (takes : List (List ℕ)) → StandsFor ground_delays phase_delays takes self.old →
             StandsFor ground_delays phase_delays [] self.new }
     {
-        if !self.is_still {
-            self.runs = [[0; 8]; 5];
-            self.is_still = true;
-        }
+        self.runs = [[0; 8]; 5];
     }
 }

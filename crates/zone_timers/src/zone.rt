@@ -2,7 +2,7 @@
 ghost use Rattle.std.specs.Prelude.{ℕ, ◌≡◌, ◌+◌, ◌<◌, ◌≤◌, ◌==◌, if◌then◌else◌, ◌↔◌};
 ghost use Rattle.std.specs.Prelude.{All, min, slice_index, IsTrue, [], ◌∷◌};
 ghost use Rattle.loop_impedance.specs.Masks.{loop_mask, has_bit};
-ghost use Rattle.zone_timers.specs.Masks.{has_loop, zone_masks};
+ghost use Rattle.zone_timers.specs.ZoneMasks.{has_loop, zone_masks};
 ghost use Rattle.zone_timers.specs.Operate.{delay_of};
 ghost use Rattle.zone_timers.specs.KeptTimers.{lane};
 

@@ -2,7 +2,7 @@ use Rattle.std.proofs.Common.{ℕ, ◌≡◌, ◌+◌, ◌<◌, ◌==◌, ◌∙
 use Rattle.std.proofs.lemmas.Bool.Decides.{nat_tests}
 use Rattle.std.specs.List.{prefix_len}
 use Rattle.sample_windows.proofs.WindowLemmas.{each_of_last-run}
-use Rattle.zone_timers.specs.Masks.{has_loop}
+use Rattle.zone_timers.specs.ZoneMasks.{has_loop}
 use Rattle.zone_timers.specs.Operate.{delay_of, operates}
 use Rattle.zone_timers.specs.KeptTimers.{StandsFor, lane}
 use Rattle.zone_timers.proofs.OperateLemmas.{zone_masks-same}

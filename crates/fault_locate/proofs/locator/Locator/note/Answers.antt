@@ -6,7 +6,7 @@ use Rattle.relay_settings.specs.declared.types.Common.{Common}
 use Rattle.event_record.specs.Time.{time_of}
 use Rattle.event_record.specs.declared.time.At.{At}
 use Rattle.event_record.specs.declared.event.Event.{Event}
-use Rattle.line_relay.specs.Samples.{Numbered}
+use Rattle.line_relay.specs.LineSamples.{Numbered}
 use Rattle.line_relay.specs.Measured.{measured}
 use Rattle.line_relay.proofs.FrontLemmas.{cycle_some}
 use Rattle.fault_locate.specs.TripLoops.{is_trip_at}

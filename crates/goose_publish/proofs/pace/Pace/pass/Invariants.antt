@@ -1,6 +1,6 @@
 use Rattle.std.proofs.Common.{ℕ, ◌+◌, ◌-◌, ◌<◌, ◌≤◌, ◌^◌}
 use Rattle.relay_settings.specs.declared.types.Common.{Common}
-use Rattle.relay_settings.specs.Samples.{samples}
+use Rattle.relay_settings.specs.Times.{samples}
 use Rattle.goose_publish.specs.Offsets.{offset_ms}
 use Rattle.goose_publish.specs.Paces.{IsAt}
 use Rattle.goose_publish.proofs.PassedOffsets.{Passing}

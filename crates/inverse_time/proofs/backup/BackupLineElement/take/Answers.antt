@@ -2,7 +2,7 @@ use Rattle.std.proofs.Common.{◌∙◌, sym, ap, refl, subst, ◌≤◌, List, 
 use Rattle.std.proofs.lemmas.List.Elements.{All-nil, All-same}
 use Rattle.relay_settings.specs.declared.types.Common.{Common}
 use Rattle.sv_frame.specs.Asdu.{plain_asdu}
-use Rattle.line_relay.specs.Samples.{Numbered}
+use Rattle.line_relay.specs.LineSamples.{Numbered}
 use Rattle.line_relay.specs.Outcomes.{number_taken}
 use Rattle.line_relay.proofs.FrontLemmas.{cycle_two}
 use Rattle.line_relay.proofs.LineLemmas.{untaken, came_is}

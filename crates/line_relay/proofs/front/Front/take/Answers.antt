@@ -9,10 +9,10 @@ use Rattle.sample_stream.specs.Taken.{number_of}
 use Rattle.sample_stream.specs.Numbering.{newer_or}
 use Rattle.cycle_phasor.specs.Window.{IsSliding}
 use Rattle.line_relay.specs.declared.front.Outcome.TheVariants.{Counter}
-use Rattle.line_relay.specs.Samples.{newest_of, Numbered, number_of_sample}
+use Rattle.line_relay.specs.LineSamples.{newest_of, Numbered, number_of_sample}
 use Rattle.line_relay.specs.Phasors.{phasors_of}
 use Rattle.relay_num.specs.Bounds.{is_cycle}
-use Rattle.line_relay.specs.Windows.{next_after, window, lanes_after, kept_now}
+use Rattle.line_relay.specs.KeptSamples.{next_after, window, lanes_after, kept_now}
 use Rattle.line_relay.specs.Outcomes.{number_taken, sample_in, with_sample, taken_samples, taken_number, outcome_of}
 use Rattle.line_relay.specs.Steps.{step_by, step_of}
 use Rattle.line_relay.specs.Fronts.{StandsFor}

@@ -5,7 +5,7 @@ use Rattle.sample_windows.specs.Numbered.{run_of}
 use Rattle.relay_settings.specs.declared.types.LineSettings.{LineSettings}
 use Rattle.relay_settings.specs.Ranges.{IsLine}
 use Rattle.relay_settings.specs.Settings.{plain_line}
-use Rattle.relay_settings.specs.Samples.{samples}
+use Rattle.relay_settings.specs.Times.{samples}
 use Rattle.memory_volt.specs.KeptMemory.{StandsFor as MemoryStandsFor}
 use Rattle.zone_timers.specs.KeptTimers.{StandsFor as TimersStandFor}
 use Rattle.trip_logic.specs.KeptTrip.{StandsFor as TripStandsFor}

@@ -5,7 +5,7 @@ use Rattle.std.specs.List.{All}
 use Rattle.std.proofs.lemmas.List.Elements.{All-append}
 use Rattle.sample_windows.specs.Windows.{at_each}
 use Rattle.relay_settings.specs.Settings.{PlainLine, plain_line}
-use Rattle.relay_settings.specs.Samples.{samples}
+use Rattle.relay_settings.specs.Times.{samples}
 use Rattle.relay_settings.specs.Ranges.{IsSwing, IsFuse}
 use Rattle.relay_settings.specs.declared.types.Common.{Common}
 use Rattle.relay_settings.specs.declared.types.SwingSettings.{SwingSettings}
@@ -25,7 +25,7 @@ use Rattle.event_record.specs.Printable.{IsPrintable}
 use Rattle.line_relay.specs.declared.measured.Measured.{Measured}
 use Rattle.line_relay.specs.Measured.{measured}
 use Rattle.line_relay.specs.declared.shown.Shown.{Shown}
-use Rattle.line_relay.specs.Samples.{Numbered, number_of_sample}
+use Rattle.line_relay.specs.LineSamples.{Numbered, number_of_sample}
 use Rattle.line_relay.specs.Guards.{is_ready_at, polarising_at, is_swing_at, is_blown_at}
 use Rattle.line_relay.specs.Operate.{ground_delays, phase_delays, trips_at, is_dead_at, is_tripped_at}
 use Rattle.line_relay.specs.Facts.{facts_of, inside_at, operate_at}

@@ -7,7 +7,7 @@ use Rattle.sv_frame.specs.Asdu.{PlainAsdu, plain_asdu}
 use Rattle.event_record.specs.Time.{time_of}
 use Rattle.line_relay.specs.declared.front.Front.{Front}
 use Rattle.line_relay.specs.declared.front.Step.{Step}
-use Rattle.line_relay.specs.Samples.{Numbered, number_of_sample, newest_of}
+use Rattle.line_relay.specs.LineSamples.{Numbered, number_of_sample, newest_of}
 use Rattle.line_relay.specs.Outcomes.{number_taken, taken_number, taken_samples, outcome_of}
 use Rattle.line_relay.specs.Steps.{step_of}
 use Rattle.line_relay.specs.Phasors.{phasors_of}

@@ -7,7 +7,7 @@ use Rattle.circular_buffer.specs.Buffer.{keep_last}
 use Rattle.relay_settings.specs.declared.types.Mimic.{Mimic}
 use Rattle.sample_stream.specs.declared.sample.Sample.{Sample}
 use Rattle.mimic_filter.specs.Mimic.{filtered_lanes}
-use Rattle.line_relay.specs.Samples.{Numbered, number_of_sample, good_now, values_now, needed}
+use Rattle.line_relay.specs.LineSamples.{Numbered, number_of_sample, good_now, values_now, needed}
 
 -- the number that follows the last one
 abbrev pub next_after : Option ℕ → ℕ
