@@ -1,7 +1,7 @@
 -- How reads change what the capture has left.
 use Rattle.std.specs.Prelude.{◌≡◌, ℕ, ◌≤◌, ◌<◌, List, ◌++◌, length, IsTrue}
 use Rattle.room_io.specs.declared.room.Slot.TheVariants.{Capture}
-use Rattle.room_io.specs.Room.{RoomState, OnlyAt, StaysOpen}
+use Rattle.room_io.specs.Room.{RoomState, OnlyAt, Stays}
 
 -- some bytes were taken off the front
 pub record Took (old new : List ℕ) : Type 0 where
@@ -22,7 +22,7 @@ pub record BreaksOff (count : ℕ) (old new : List ℕ) : Type 0 where
 
 -- nothing has changed but what Capture has left, of which some was taken off the front, and its count, which has not fallen
 pub record OnlyReads (old new : RoomState) : Type 0 where
-  pub stays : StaysOpen Capture old new
+  pub stays : Stays old.capture new.capture
   pub later : old.capture.faults ≤ new.capture.faults
   pub only : OnlyAt Capture old new
   pub took : IsTrue old.tells → Took old.capture.bytes new.capture.bytes

@@ -1,6 +1,6 @@
 -- Record after record, heard.
 use Rattle.std.proofs.Common.{◌≡◌, ℕ, ◌+◌, ◌≤◌, IsTrue, List, [], ◌∷◌, ◌++◌, length, reverse, refl, sym, ◌∙◌, ap, subst, arith, append_assoc, append-nil, length-append}
-use Rattle.room_io.specs.Room.{RoomState, Rose, OnlyAt, StaysOpen}
+use Rattle.room_io.specs.Room.{RoomState, Rose, OnlyAt, Stays}
 use Rattle.room_io.specs.declared.room.Slot.TheVariants as slots
 use Rattle.capture_feed.specs.Records.{Records, Stop, Damaged, Cut, TooLong, stopped}
 use Rattle.capture_feed.specs.declared.stop.FeedStop.{FeedStop}
@@ -80,7 +80,7 @@ module _ (first : List ℕ → Records) (whole : List ℕ) where
   -- the feed stopped
   pub heeded-halted : {stands : List PlainAsdu → Type 0} {number : ℕ} {next : List ℕ → Records} {old now : RoomState} (new : RoomState) (stop : FeedStop) →
       whole ≡ old.capture.bytes →
-      Heeded stands first whole number next now.capture.bytes old → OnlyAt slots.Capture old now → OnlyAt slots.Capture old new → StaysOpen slots.Capture old new →
+      Heeded stands first whole number next now.capture.bytes old → OnlyAt slots.Capture old now → OnlyAt slots.Capture old new → Stays old.capture new.capture →
       old.capture.faults ≤ now.capture.faults → now.capture.faults ≤ new.capture.faults →
       StopsAs next now new stop → Listens stands first old new (halted stop number)
   heeded-halted {stands} {number} {next} {old} {now} new stop whole_is heeded before only stays sooner later at = go stop at

@@ -1,6 +1,6 @@
 -- Record after record.
 use Rattle.std.proofs.Common.{◌≡◌, inl, ℕ, ◌+◌, ◌≤◌, false, IsTrue, List, [], ◌∷◌, ◌++◌, length, take, reverse, refl, sym, ◌∙◌, ap, subst, arith, append_assoc, append-nil, length-append}
-use Rattle.room_io.specs.Room.{RoomState, at, Rose, OnlyAt, StaysOpen}
+use Rattle.room_io.specs.Room.{RoomState, at, Rose, OnlyAt, Stays}
 use Rattle.room_io.specs.declared.room.Slot.{Slot}
 use Rattle.room_io.specs.declared.room.Slot.TheVariants as slots
 use Rattle.capture_feed.specs.Records.{Records, Stop, Damaged, Cut, TooLong, add, stopped}
@@ -35,7 +35,7 @@ works-writes p = OnlyUses-more within p
     within slots.Note e = refl
     within slots.Answer e = refl
 
-pub works-reads : {a b : RoomState} → OnlyAt slots.Capture a b → StaysOpen slots.Capture a b → a.capture.faults ≤ b.capture.faults → OnlyWorks a b
+pub works-reads : {a b : RoomState} → OnlyAt slots.Capture a b → Stays a.capture b.capture → a.capture.faults ≤ b.capture.faults → OnlyWorks a b
 works-reads only stays later = OnlyUses-at is_worked slots.Capture refl only stays later
 
 -- an output is not the capture

@@ -2,7 +2,7 @@
 use Rattle.std.proofs.Common.{◌≡◌, ◌∙◌, inl, inr, ℕ, zero, suc, ◌≤◌, Bool, true, false, IsTrue, List, [], ◌∷◌, ◌++◌, take, refl, sym, ap, subst, arith, append_assoc, append-nil}
 use Rattle.std.specs.Prelude.{Ok, Err, Result, Option, Some, if◌then◌else◌}
 use Rattle.std.proofs.lemmas.Bool.{cases_Bool}
-use Rattle.room_io.specs.Room.{RoomState, SlotState, at, OnlyAt, StaysOpen, Rose}
+use Rattle.room_io.specs.Room.{RoomState, SlotState, at, OnlyAt, Stays, Rose}
 use Rattle.room_io.specs.declared.room.Slot.{Slot}
 use Rattle.room_io.proofs.Rooms.{tells-OnlyAt}
 use Rattle.relay_tool.specs.Output.{Item}
@@ -35,7 +35,7 @@ pub OnlyUses-more : {used more : Slot → Bool} {a b : RoomState} → ((slot : S
 OnlyUses-more within p = record { tells = p.tells; contents = p.contents; others = λ slot e. p.others slot (within slot e); each = p.each }
 
 -- of one slot
-pub OnlyUses-at : (used : Slot → Bool) (slot : Slot) {a b : RoomState} → used slot ≡ true → OnlyAt slot a b → StaysOpen slot a b → (at a slot).faults ≤ (at b slot).faults → OnlyUses used a b
+pub OnlyUses-at : (used : Slot → Bool) (slot : Slot) {a b : RoomState} → used slot ≡ true → OnlyAt slot a b → Stays (at a slot) (at b slot) → (at a slot).faults ≤ (at b slot).faults → OnlyUses used a b
 OnlyUses-at used slot {a} {b} is only stays later = record {
   tells = tells-OnlyAt only;
   contents = contents-OnlyAt only;

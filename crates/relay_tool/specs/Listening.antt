@@ -1,6 +1,6 @@
 -- What the hearing of a capture's records leaves.
 use Rattle.std.specs.Prelude.{◌≡◌, ◌≤◌, ℕ, IsTrue, List, [], length, Result, IfOk, IfErr}
-use Rattle.room_io.specs.Room.{RoomState, OnlyAt, StaysOpen, Rose}
+use Rattle.room_io.specs.Room.{RoomState, OnlyAt, Stays, Rose}
 use Rattle.room_io.specs.declared.room.Slot.TheVariants.{Capture}
 use Rattle.capture_feed.specs.Records.{Records}
 use Rattle.sv_frame.specs.Asdu.{PlainAsdu}
@@ -22,7 +22,7 @@ pub record BrokenOff (old new : RoomState) (e : Failed) : Type 0 where
 -- the records that are left of an input were heard, of which `left` says what it finds in so many bytes
 pub record Listens (Stands : List PlainAsdu → Type 0) (left : List ℕ → Records) (old new : RoomState) (result : Result Stopped Failed) : Type 0 where
   pub only : OnlyAt Capture old new
-  pub stays : StaysOpen Capture old new
+  pub stays : Stays old.capture new.capture
   pub later : old.capture.faults ≤ new.capture.faults
   -- some sample sets were heard, whether the room tells content or not
   pub past : List PlainAsdu

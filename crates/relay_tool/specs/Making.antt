@@ -1,6 +1,6 @@
 -- What a part of a run does to the room, and what it writes.
 use Rattle.std.specs.Prelude.{◌≡◌, ℕ, ◌≤◌, Bool, false, ◌||◌, IsTrue, List, ◌++◌, reverse, Some, Result, OnOk, IfErr}
-use Rattle.room_io.specs.Room.{RoomState, SlotState, at, Rose, OnlyAt, StaysOpen, AppendsPart}
+use Rattle.room_io.specs.Room.{RoomState, SlotState, at, Rose, OnlyAt, Stays, AppendsPart}
 use Rattle.room_io.specs.declared.room.Slot.{Slot}
 use Rattle.room_io.specs.declared.room.Slot.TheVariants.{Capture}
 use Rattle.sv_frame.specs.Asdu.{PlainAsdu}
@@ -59,7 +59,7 @@ pub record Makes (items : List Item) (old new : RoomState) (result : Result (Uni
 -- these bytes were appended to an output, all at Ok and a front of them else
 pub record Puts (slot : Slot) (bytes : List ℕ) (old new : RoomState) (result : Result (Unit {0}) Failed) : Type 0 where
   pub only : OnlyAt slot old new
-  pub stays : StaysOpen slot old new
+  pub stays : Stays (at old slot) (at new slot)
   pub later : (at old slot).faults ≤ (at new slot).faults
   pub whole : OnOk result (IsTrue old.tells → (at new slot).bytes ≡ (at old slot).bytes ++ bytes)
   pub part : IsTrue old.tells → AppendsPart (at old slot).bytes (at new slot).bytes bytes

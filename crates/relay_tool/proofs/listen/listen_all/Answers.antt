@@ -1,7 +1,7 @@
 use Rattle.std.proofs.Common.{◌∙◌, refl, sym, subst, arith}
 use Rattle.std.specs.Prelude.{Result}
 use Rattle.room_io.specs.declared.room.Slot.TheVariants.{Capture}
-use Rattle.room_io.proofs.Rooms.{OnlyAt-refl, OnlyAt-trans, StaysOpen-refl, StaysOpen-trans}
+use Rattle.room_io.proofs.Rooms.{OnlyAt-refl, OnlyAt-trans, Stays-refl, Stays-trans}
 use Rattle.capture_feed.specs.Records.{Whole}
 use Rattle.capture_feed.specs.Left.{found}
 use Rattle.comtrade_write.specs.KeptRecorder.{StandsFor}
@@ -19,7 +19,7 @@ records-init g c = record {
   counted = omega arith;
   heard = let h = c.requires.heard in omega arith;
   only = OnlyAt-refl Capture _;
-  stays = StaysOpen-refl Capture _;
+  stays = Stays-refl _;
   later = omega arith;
   heeded = λ common settings k stands. heeded-none _ _ _ _ stands;
 }
@@ -36,7 +36,7 @@ records-preserved g c =
       counted = let t = hands.taken in let n = i.counted in omega arith;
       heard = let n = c.hear_frame.ensures.counted in let m = i.heard in omega arith;
       only = OnlyAt-trans i.only k.only;
-      stays = StaysOpen-trans i.stays k.stays;
+      stays = Stays-trans i.stays k.stays;
       later = let a = i.later in let b = k.later in omega arith;
       heeded = λ common settings trip stands.
           let t = i.heeded common settings trip stands in
@@ -54,7 +54,7 @@ returns-in-None-clause-records g c common settings trip stands =
     let i = c.records.invariant in
     record {
       only = OnlyAt-trans i.only k.reads.only;
-      stays = StaysOpen-trans i.stays k.reads.stays;
+      stays = Stays-trans i.stays k.reads.stays;
       later = let a = i.later in let b = k.reads.later in omega arith;
       past = (i.heeded common settings trip stands).past;
       stands = (i.heeded common settings trip stands).stands;
@@ -70,4 +70,4 @@ returns-in-Err-clause-records g c common settings trip stands =
     let e = c.in-Err.ensures.asks in
     let i = c.records.invariant in
     subst (λ (r : Result Stopped Failed). Listens (λ past. StandsFor common settings trip past c.records.recorder) (found c.args.feed.now) (g.R.Room.state c.args.room.now) (g.R.Room.state c.next.new.room) r) (sym c.ended_by.ensures)
-    (heeded-halted _ _ (g.R.Room.state c.next.new.room) c.in-Err.stop refl (i.heeded common settings trip stands) i.only (OnlyAt-trans i.only e.reads.only) (StaysOpen-trans i.stays e.reads.stays) i.later e.reads.later e.stop)
+    (heeded-halted _ _ (g.R.Room.state c.next.new.room) c.in-Err.stop refl (i.heeded common settings trip stands) i.only (OnlyAt-trans i.only e.reads.only) (Stays-trans i.stays e.reads.stays) i.later e.reads.later e.stop)

@@ -1,5 +1,5 @@
 use Rattle.std.proofs.Common.{◌*◌, ◌-◌, ◌≤◌, IsTrue, ℕ, []}
-use Rattle.room_io.specs.Room.{IsReadyIn, OnlyAt, StaysOpen}
+use Rattle.room_io.specs.Room.{IsReadyIn, OnlyAt, Stays}
 use Rattle.room_io.specs.declared.room.Slot.TheVariants.{Capture}
 use Rattle.capture_feed.specs.Left.{found, is_live, taken_by, limit_of}
 use Rattle.relay_settings.specs.declared.types.Common.{Common}
@@ -15,7 +15,7 @@ invariant-records g l = record {
   counted : 16 * l.records ≤ taken_by l.feed;
   heard : heard_of l.recorder ≤ 16 * l.records;
   only : OnlyAt Capture (g.R.Room.state l.fn.room) (g.R.Room.state l.room);
-  stays : StaysOpen Capture (g.R.Room.state l.fn.room) (g.R.Room.state l.room);
+  stays : Stays (g.R.Room.state l.fn.room).capture (g.R.Room.state l.room).capture;
   later : (g.R.Room.state l.fn.room).capture.faults ≤ (g.R.Room.state l.room).capture.faults;
   heeded : (common : Common) (settings : PlainLine) (k : ℕ) → StandsFor common settings k [] l.fn.recorder →
       Heeded (λ past. StandsFor common settings k past l.recorder) (found l.fn.feed) (g.R.Room.state l.fn.room).capture.bytes l.records (found l.feed)
