@@ -1,8 +1,9 @@
 -- What a publisher holds after one more take.
 use Rattle.std.proofs.Common.{◌≡◌, refl, ℕ, suc, ◌-◌, ◌*◌, ◌<◌, ◌≤◌, leb, true, false, sym, ap, ◌∙◌, arith, le_refl, inl, inr, List, [], ◌∷◌}
-use Rattle.std.specs.Prelude.{Some, if◌then◌else◌, Bool, ◌==◌}
+use Rattle.std.specs.Prelude.{Some, None, if◌then◌else◌, Bool, not, ◌==◌}
+use Rattle.std.specs.Option.{ForSome}
 use Rattle.std.specs.Bool.{beq}
-use Rattle.std.proofs.lemmas.Bool.{cases_Bool, cond-true, cond-false, false≢true, and_parts, eqb-true, not-false}
+use Rattle.std.proofs.lemmas.Bool.{cases_Bool, cond-true, cond-false, false≢true, and_parts, and_from, eqb-true, eq-eqb, not-false}
 use Rattle.sample_windows.specs.Numbered.{Rises}
 use Rattle.sample_windows.specs.Windows.{newest_where}
 use Rattle.relay_settings.specs.declared.types.Common.{Common}
@@ -73,6 +74,21 @@ same_is p q e =
 unchanged : (t : PointsTake) (takes : List PointsTake) → changes_now (t ∷ takes) ≡ false → points_now takes ≡ Some t.points
 unchanged t [] e = absurd (false≢true (sym e))
 unchanged t (u ∷ older) e = ap Some (sym (same_is t.points u.points (not-false _ e)))
+
+same_true : (b : Bool) → beq b b ≡ true
+same_true true = refl
+same_true false = refl
+
+same_as_itself : (p : Points) → same_points p p ≡ true
+same_as_itself p =
+    and_from _ _ (same_true p.trip) (and_from _ _ (same_true p.start) (and_from _ _ (same_true p.swing)
+    (and_from _ _ (same_true p.fuse) (and_from _ _ (eq-eqb p.zones p.zones refl) (same_true p.ready)))))
+
+-- a take with the points of the last one changes nothing
+pub stays : (t : PointsTake) (takes : List PointsTake) → ForSome (points_now takes) (λ last. last ≡ t.points) →
+    (points_now takes ≡ None → ⊥) → changes_now (t ∷ takes) ≡ false
+stays t [] same some = absurd (some refl)
+stays t (u ∷ older) same some = ap not (ap (same_points t.points) (same u.points refl) ∙ same_as_itself t.points)
 
 module _ (common : Common) (takes : List PointsTake) (old : Schedule) (stands : HasTaken common takes old) where
   -- the greatest offset that doesn't fall above the newest number is the last that was passed

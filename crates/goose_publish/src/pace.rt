@@ -83,7 +83,7 @@ impl Pace {
     }
 
     /// Whether the next offset falls at most `age` samples after the change.
-    fn is_within(&self, age: u64) -> bool
+    pub fn is_within(&self, age: u64) -> bool
         requires { age < 2 ^ 61 }
         ensures { result ≡ nat_le (samples self.now.rate self.now.next_ms) age }
     {

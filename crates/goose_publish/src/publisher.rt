@@ -20,11 +20,14 @@ pub struct Publisher {
 }
 
 impl Publisher {
-    ghost use Rattle.std.specs.Prelude.{ℕ, ◌≡◌, ◌<◌, ◌≤◌, ◌^◌, List, [], ◌∷◌, length, IfSome};
+    ghost use Rattle.std.specs.Prelude.{ℕ, ◌≡◌, ◌<◌, ◌≤◌, ◌^◌, not, List, [], ◌∷◌, length, IfSome, IsTrue};
+    ghost use Rattle.std.specs.Option.{ForSome};
     ghost use Rattle.relay_settings.specs.declared.types.Common.{Common};
+    ghost use Rattle.goose_publish.specs.declared.points.Points.{Points};
     ghost use Rattle.relay_settings.specs.Settings.{PlainGoose, plain_goose};
     ghost use Rattle.relay_settings.specs.Ranges.{IsCommon, IsGoose};
-    ghost use Rattle.goose_publish.specs.Publishing.{PointsTake, take_of, RisesTo, send_of};
+    ghost use Rattle.goose_publish.specs.Publishing.{PointsTake, take_of, RisesTo, sends_now, send_of};
+    ghost use Rattle.goose_publish.specs.Schedules.{points_now};
     ghost use Rattle.goose_publish.specs.Sends.{IsSentAt};
     ghost use Rattle.goose_publish.specs.GooseFrame.{fields_bytes, frame_bytes};
     ghost use Rattle.goose_publish.specs.FrameEnds.{EndsAtItsLength};
@@ -64,6 +67,20 @@ impl Publisher {
         ensures sent { IfSome result (λ s. IsSentAt number points.now s) }
     {
         self.schedule.take(number, points)
+    }
+
+    /// Whether nothing is sent at the next sample, where its points are those of the last take. It needn't be taken then:
+    /// the publisher stands for the longer list too. Before the first take something always is.
+    pub fn is_idle(&self, number: u64) -> bool
+        requires { number < 2 ^ 61 }
+        ensures idle { (common : Common) (goose : PlainGoose) (takes : List PointsTake) (points : Points) →
+            StandsFor common goose takes self.now → RisesTo (take_of number points) takes → ForSome (points_now takes) (λ last. last ≡ points) →
+            result ≡ not (sends_now common (take_of number points ∷ takes)) }
+        ensures after { (common : Common) (goose : PlainGoose) (takes : List PointsTake) (points : Points) →
+            StandsFor common goose takes self.now → RisesTo (take_of number points) takes → ForSome (points_now takes) (λ last. last ≡ points) →
+            IsTrue result → StandsFor common goose (take_of number points ∷ takes) self.now }
+    {
+        self.schedule.is_idle(number)
     }
 
     /// The bytes of a frame that is sent, from the destination to the end of the PDU (IEC 61850-8-1). They depend

@@ -32,11 +32,13 @@ pub struct Schedule {
 }
 
 impl Schedule {
-    ghost use Rattle.std.specs.Prelude.{ℕ, ◌≡◌, ◌<◌, ◌≤◌, ◌^◌, List, [], ◌∷◌, IsTrue, IfSome};
+    ghost use Rattle.std.specs.Prelude.{ℕ, ◌≡◌, ◌<◌, ◌≤◌, ◌^◌, not, List, [], ◌∷◌, IsTrue, IfSome};
+    ghost use Rattle.std.specs.Option.{ForSome};
     ghost use Rattle.relay_settings.specs.declared.types.Common.{Common};
+    ghost use Rattle.goose_publish.specs.declared.points.Points.{Points};
     ghost use Rattle.goose_publish.specs.Publishing.{PointsTake, take_of, RisesTo, changes_now, sends_now, sent, send_of};
     ghost use Rattle.goose_publish.specs.Sends.{IsSentAt};
-    ghost use Rattle.goose_publish.specs.Schedules.{HasTaken};
+    ghost use Rattle.goose_publish.specs.Schedules.{HasTaken, points_now};
 
     /// One that has taken nothing.
     pub fn new(common: &Common) -> Schedule
@@ -70,6 +72,23 @@ impl Schedule {
         } else {
             None
         }
+    }
+
+    /// Whether nothing is sent at the next sample, where its points are those of the last take. It needn't be taken then:
+    /// the schedule holds the same after it.
+    pub fn is_idle(&self, number: u64) -> bool
+        requires { number < 2 ^ 61 }
+        ensures idle { (common : Common) (takes : List PointsTake) (points : Points) →
+            HasTaken common takes self.now → RisesTo (take_of number points) takes → ForSome (points_now takes) (λ last. last ≡ points) →
+            result ≡ not (sends_now common (take_of number points ∷ takes)) }
+        ensures after { (common : Common) (takes : List PointsTake) (points : Points) →
+            HasTaken common takes self.now → RisesTo (take_of number points) takes → ForSome (points_now takes) (λ last. last ≡ points) →
+            IsTrue result → HasTaken common (take_of number points ∷ takes) self.now }
+    {
+        if self.last.is_none() {
+            return false;
+        }
+        !self.pace.is_within(number.saturating_sub(self.change))
     }
 
     /// Whether these points are the first, or differ from those taken before.
