@@ -14,7 +14,6 @@ mod block;
 mod content;
 mod cursor;
 mod feed;
-mod lending;
 mod numbers;
 mod pcap;
 mod pcapng;
@@ -26,6 +25,3 @@ mod written;
 pub use feed::{Feed, Rec};
 pub use stop::FeedStop;
 pub use written::{put_header, put_record, show_written_reads_back};
-
-#[cfg(test)]
-mod tests;

@@ -9,5 +9,6 @@ pub mod PartLemmas
 pub mod InsideLemmas
 pub mod NextLemmas
 pub mod FactLemmas
+pub mod PublishedLemmas
 pub mod LineLemmas
 pub mod RangeProps

@@ -13,6 +13,7 @@ pub mod Points
 pub mod Events
 pub mod Bursts
 pub mod Shown
+pub mod Published
 pub mod Sizes
 pub mod KeptGuards
 pub mod FormedLoops

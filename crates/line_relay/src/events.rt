@@ -73,8 +73,8 @@ pub fn push_arrival(
     tell(events, common, last, what);
 }
 
-/// Tells each fact that isn't as it was told last, and keeps what is told now. Mostly no fact has changed, and nothing is
-/// written.
+/// Tells each fact that isn't as it was told last, keeps what is told now, and answers whether a fact has changed. Mostly
+/// none has, and nothing is written.
 #[inline(always)]
 pub fn note_changes(
     events: &mut ArrayVec<Event, 96>,
@@ -83,17 +83,19 @@ pub fn note_changes(
     shown: &mut Shown,
     now: &Shown,
     trip: &TripState,
-)
+) -> bool
     requires rate { 1 < common.now.rate }
     requires room { array_vec_len events.old + 64 ≤ 96 }
     ensures events { events.new.items ≡ events.old.items ++ told (option_map (time_of common.now) last) (shown_changes shown.old now.now trip.now) }
     ensures shown { shown.new ≡ now.now }
+    ensures changed { (result ≡ false) ↔ ((trip.now.rose ≡ false) × (trip.now.fell ≡ false) × (shown.old ≡ now.now)) }
 {
     if is_as_before(shown, now, trip) {
-        return;
+        return false;
     }
     push_changes(events, common, last, shown, now, trip);
     *shown = *now;
+    true
 }
 
 /// Tells each fact that isn't as it was.

@@ -2,10 +2,11 @@
 ghost use Rattle.std.specs.Prelude.{◌≡◌, ◌<◌, ◌^◌, ◌+◌, true, All, List, ◌∷◌};
 ghost use Rattle.relay_settings.specs.declared.types.Common.{Common};
 ghost use Rattle.relay_settings.specs.Settings.{PlainGoose};
-ghost use Rattle.goose_publish.specs.Publishing.{PointsTake, take_of, RisesTo, send_of};
+ghost use Rattle.goose_publish.specs.Publishing.{PointsTake, send_of};
 ghost use Rattle.goose_publish.specs.Publishers.{StandsFor as PublisherStandsFor};
 ghost use Rattle.std.specs.Option.{ForSome, option_map};
 ghost use Rattle.relay_num.specs.Numbers.{IsBelow};
+ghost use Rattle.line_relay.specs.Published.{shown_take, IsNextTake};
 ghost use Rattle.relay_settings.specs.Ranges.{IsLine};
 ghost use Rattle.relay_num.specs.Bounds.{is_cycle};
 ghost use Rattle.memory_volt.specs.KeptMemory.{HoldsBelow};
@@ -21,7 +22,7 @@ use crate::quiet::greatest_part;
 use crate::shown::{Shown, points_of};
 use arrayvec::ArrayVec;
 use event_record::{At, at_of};
-use goose_publish::{Points, Publisher, Send};
+use goose_publish::{Publisher, Send};
 use memory_volt::MemoryVolt;
 use relay_num::{Cx, NoMemory, Steps};
 use relay_settings::{Common, LineSettings, samples_of};
@@ -205,7 +206,7 @@ impl Line {
             inside,
             operate,
         };
-        note_changes(
+        let changed = note_changes(
             &mut burst.events,
             &self.common,
             Some(number),
@@ -216,7 +217,9 @@ impl Line {
         publish(
             &mut self.publisher,
             number,
-            &points_of(&shown, trip.on),
+            &shown,
+            trip.on,
+            changed,
             &mut burst.send,
         );
     }
@@ -264,18 +267,29 @@ impl Line {
     }
 }
 
-/// Puts the frame that is sent at this sample, if any, where none is. Mostly none is sent, and nothing is written.
-fn publish(publisher: &mut Publisher, number: u64, points: &Points, send: &mut Option<Send>)
+/// Puts the frame that is sent at this sample, if any, where none is. Mostly no fact has changed and no repetition is due:
+/// then no points are formed, and nothing is taken or written.
+fn publish(
+    publisher: &mut Publisher,
+    number: u64,
+    shown: &Shown,
+    trip: bool,
+    changed: bool,
+    send: &mut Option<Send>,
+)
     requires number { number < 2 ^ 61 }
     requires unsent { send.old ≡ None }
     ensures send { (common : Common) (goose : PlainGoose) (takes : List PointsTake) →
-        PublisherStandsFor common goose takes publisher.old → RisesTo (take_of number points.now) takes →
-        send.new ≡ send_of common (take_of number points.now) takes }
+        PublisherStandsFor common goose takes publisher.old → IsNextTake (shown_take number shown.now trip) changed takes →
+        send.new ≡ send_of common (shown_take number shown.now trip) takes }
     ensures after { (common : Common) (goose : PlainGoose) (takes : List PointsTake) →
-        PublisherStandsFor common goose takes publisher.old → RisesTo (take_of number points.now) takes →
-        PublisherStandsFor common goose (take_of number points.now ∷ takes) publisher.new }
+        PublisherStandsFor common goose takes publisher.old → IsNextTake (shown_take number shown.now trip) changed takes →
+        PublisherStandsFor common goose (shown_take number shown.now trip ∷ takes) publisher.new }
 {
-    match publisher.take(number, points) {
+    if !changed && publisher.is_idle(number) {
+        return;
+    }
+    match publisher.take(number, &points_of(shown, trip)) {
         Some(sent) => *send = Some(sent),
         None => {}
     }

@@ -17,6 +17,3 @@ mod room;
 pub use host::HostRoom;
 pub use mem::MemRoom;
 pub use room::{Fault, ReadStop, Room, Slot, read_up_to, write_whole};
-
-#[cfg(test)]
-mod tests;

@@ -38,7 +38,9 @@ use Rattle.line_relay.specs.KeptLine.{kept_by, volt_takes, swing_takes, fuse_tak
 use Rattle.line_relay.specs.Noted.{IsNext}
 use Rattle.line_relay.proofs.FrontLemmas.{cycle_two}
 use Rattle.line_relay.proofs.RangeProps.{ranges_of}
+use Rattle.line_relay.specs.Published.{shown_take, IsNextTake}
 use Rattle.line_relay.proofs.NextLemmas
+use Rattle.line_relay.proofs.PublishedLemmas.{still, same_points}
 use Rattle.line_relay.proofs.EventLemmas.{shown_changes-are, changes-printable, told-printable, time-printable}
 use Rattle.line_relay.proofs.line.Line.note.Given as given
 use Rattle.line_relay.proofs.line.Line.note.Goals as goal
@@ -176,12 +178,21 @@ module _ (g : given.Over) (c : goal.After-self-1 g) (s : Numbered) (past : List 
   abbrev points_takes : List PointsTake
   points_takes = at_each (points_take common settings) past
 
-  point : points_take_of c.args.number c.points_of.result ≡ points_take common settings longer
-  point = ap (λ n. points_take_of n c.points_of.result) next.same_number
-      ∙ ap (points_take_of s.number) (c.points_of.ensures.points ∙ ap points_of shown)
+  point : shown_take c.args.number (shown_now g c) c.take-trip.result.on ≡ points_take common settings longer
+  point = ap (λ n. points_take_of n (points_of (facts_shown (shown_now g c) c.take-trip.result.on))) next.same_number
+      ∙ ap (λ facts. points_take_of s.number (points_of facts)) shown
 
-  rises : RisesTo (points_take_of c.args.number c.points_of.result) points_takes
-  rises = subst (λ (t : PointsTake). RisesTo t points_takes) (sym point) (NextLemmas.points_rise common settings s past next.rises)
+  follows_points : IsNextTake (shown_take c.args.number (shown_now g c) c.take-trip.result.on) c.note_changes-changed.result points_takes
+  follows_points = record {
+    rises = subst (λ (t : PointsTake). RisesTo t points_takes) (sym point) (NextLemmas.points_rise common settings s past next.rises);
+    same = λ unchanged.
+        let same = c.note_changes-changed.ensures.changed.0 unchanged in
+        let was = is_tripped_at common settings past in
+        let moved = trip ∙ ap (changed was) (sym on) in
+        same_points common settings c.args.self.now.shown (shown_now g c) was c.take-trip.result.on past same.2
+        (still was c.take-trip.result.on (sym (ap (λ (t : TripState). t.rose) moved) ∙ same.0) (sym (ap (λ (t : TripState). t.fell) moved) ∙ same.1))
+        next.holds.shown;
+  }
 
 pub returns-clause-after : goal.returns-clause-after
 unfolding at_each
@@ -201,8 +212,8 @@ returns-clause-after g c s past next =
       trip = subst (λ (t : TripTake). TripStandsFor (least g c s past next) (open_run g c s past next) (t ∷ trip_takes g c s past next) c.take-trip.new.self) (taken g c s past next)
           (c.take-trip.ensures.after (least g c s past next) (open_run g c s past next) (trip_takes g c s past next) next.holds.trip (follows g c s past next));
       publisher = subst (λ (t : PointsTake). PublisherStandsFor common settings.goose (t ∷ points_takes g c s past next) c.publish.new.publisher) (point g c s past next)
-          (c.publish.ensures.after common settings.goose (points_takes g c s past next) next.holds.publisher (rises g c s past next));
-      shown = ap (λ (told : Shown). facts_shown told (is_tripped_at common settings (s ∷ past))) c.note_changes.ensures.shown
+          (c.publish.ensures.after common settings.goose (points_takes g c s past next) next.holds.publisher (follows_points g c s past next));
+      shown = ap (λ (told : Shown). facts_shown told (is_tripped_at common settings (s ∷ past))) c.note_changes-changed.ensures.shown
           ∙ ap (facts_shown (shown_now g c)) (sym (on g c s past next)) ∙ shown g c s past next;
     }
 
@@ -211,14 +222,14 @@ returns-clause-events g c s past next =
     let common = c.args.self.now.common in
     let settings = plain_line c.args.self.now.settings in
     let was = is_tripped_at common settings past in
-    c.note_changes.ensures.events
+    c.note_changes-changed.ensures.events
     ∙ ap (λ whats. c.args.burst.now.events.items ++ told (option_map (time_of common) (Some c.args.number)) whats)
     (shown_changes-are c.args.self.now.shown (shown_now g c) c.take-trip.result was (trip g c s past next ∙ ap (changed was) (sym (on g c s past next)))
     ∙ ap₂ changes next.holds.shown (shown g c s past next))
 
 pub returns-clause-printable : goal.returns-clause-printable
 returns-clause-printable g c before =
-    subst (All IsPrintable) (sym c.note_changes.ensures.events) (All-append IsPrintable _ _ before
+    subst (All IsPrintable) (sym c.note_changes-changed.ensures.events) (All-append IsPrintable _ _ before
     (told-printable (option_map (time_of c.args.self.now.common) (Some c.args.number)) _ (time-printable c.args.self.now.common (Some c.args.number) c.args.self.now.rated)
     (changes-printable c.args.self.now.shown (shown_now g c) c.take-trip.result)))
 
@@ -226,5 +237,5 @@ pub returns-clause-send : goal.returns-clause-send
 returns-clause-send g c s past next =
     let common = c.args.self.now.common in
     let settings = plain_line c.args.self.now.settings in
-    c.publish.ensures.send common settings.goose (points_takes g c s past next) next.holds.publisher (rises g c s past next)
+    c.publish.ensures.send common settings.goose (points_takes g c s past next) next.holds.publisher (follows_points g c s past next)
     ∙ ap (λ t. send_of common t (points_takes g c s past next)) (point g c s past next)

@@ -1,6 +1,6 @@
 //! A room in memory with short pieces, calls that fail and outputs that are full; and real files, written and read
 //! back.
-use crate::{Fault, HostRoom, MemRoom, Room, Slot, read_up_to, write_whole};
+use room_io::{Fault, HostRoom, MemRoom, Room, Slot, read_up_to, write_whole};
 use std::test::Fail;
 
 #[test]

@@ -4,7 +4,7 @@ ghost use Rattle.room_io.specs.Room.{IsReadyIn};
 ghost use Rattle.room_io.specs.declared.room.Slot.TheVariants.{Capture};
 ghost use Rattle.capture_feed.specs.Left.{is_live};
 
-use crate::feed::Feed;
+use capture_feed::Feed;
 use room_io::Room;
 
 /// How many bytes the next two records lend. A record is let go before the next call of the feed:

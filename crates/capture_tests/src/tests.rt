@@ -5,8 +5,8 @@ ghost use Rattle.std.specs.Prelude.{◌^◌, ◌<◌, ◌≤◌};
 mod blocks;
 
 use crate::lending::lent_lengths;
-use crate::{Feed, FeedStop, put_header, put_record};
 use arrayvec::ArrayVec;
+use capture_feed::{Feed, FeedStop, put_header, put_record};
 use room_io::{MemRoom, Room, Slot};
 use std::alloc::{AllocError, Global};
 use std::process::Abort;

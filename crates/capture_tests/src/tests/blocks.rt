@@ -5,7 +5,7 @@ use super::{
     BIG_SECTION, COOKED, CUSTOM, Came, ETHERNET, PACKET, SECTION, SHORT_ETHERNET, SHORT_SIMPLE,
     SIMPLE, comes, joined, records_of,
 };
-use crate::FeedStop;
+use capture_feed::FeedStop;
 use std::alloc::{AllocError, Global};
 use std::test::Fail;
 
