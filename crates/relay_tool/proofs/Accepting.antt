@@ -1,5 +1,5 @@
 -- What was read of the settings is accepted as the whole file is.
-use Rattle.std.proofs.Common.{◌≡◌, inl, inr, ℕ, ◌<◌, false, IsTrue, List, [], length, take, refl, sym, ◌∙◌, ap, arith, min, length-take}
+use Rattle.std.proofs.Common.{◌≡◌, inl, inr, ℕ, ◌<◌, false, IsTrue, List, [], length, take, drop, refl, sym, ◌∙◌, ap, arith, min, length-take}
 use Rattle.std.specs.Prelude.{Some, Err, unwrap_or, codes, nat_le}
 use Rattle.std.proofs.lemmas.List.{take_all}
 use Rattle.std.proofs.lemmas.Bool.Decides.{nat_tests}
@@ -10,7 +10,7 @@ use Rattle.settings_read.specs.Accepted.{accepted}
 use Rattle.settings_read.specs.View.{Fails}
 use Rattle.settings_read.specs.declared.error.SettingsError.{SettingsError}
 use Rattle.settings_read.specs.declared.error.SettingsError.TheVariants.{NoMemory, Refused}
-use Rattle.relay_tool.specs.Run.{content_of}
+use Rattle.relay_tool.specs.Run.{content_of, most_settings}
 use Rattle.relay_tool.specs.Accepting.{SettingsEnd, stop_of_error}
 
 too_large : (bytes : List ℕ) → 1048576 < length bytes → accepted bytes ≡ Err (refusal 1 (codes "file"))
@@ -31,8 +31,13 @@ pub accepts : (most : ℕ) (contents : List (List ℕ × List ℕ)) (name left t
 accepts most contents name left text most_is there front =
     ap (λ o. accepted (unwrap_or o [])) there ∙ (sym (front-accepted most left most_is) ∙ ap accepted (sym front))
 
+-- what is left behind the bytes that were read
+pub leaves-rest : (contents : List (List ℕ × List ℕ)) (name whole left : List ℕ) → content contents name ≡ Some whole → left ≡ drop most_settings whole → left ≡ drop most_settings (content_of contents name)
+leaves-rest contents name whole left there rest = rest ∙ ap (λ o. drop most_settings (unwrap_or o [])) (sym there)
+
 -- why there are no settings
 pub settings-error : (name : List ℕ) (old new : RoomState) (error : SettingsError) (text : List ℕ) → (IsTrue old.tells → accepted (content_of old.contents name) ≡ accepted text) → Fails error (accepted text) →
+    (IsTrue old.tells → new.settings.bytes ≡ drop most_settings (content_of old.contents name)) →
     SettingsEnd name old new (stop_of_error error)
-settings-error name old new NoMemory text same fails = tt
-settings-error name old new (Refused number key) text same fails = λ told. same told ∙ sym fails
+settings-error name old new NoMemory text same fails left = tt
+settings-error name old new (Refused number key) text same fails left = λ told. record { accepted = same told ∙ sym fails; left = left told }

@@ -17,6 +17,7 @@ use Rattle.relay_tool.specs.Making.{Puts}
 use Rattle.relay_tool.specs.Leaving.{Gives, EndsAs, Leaves}
 use Rattle.relay_tool.specs.declared.put.Failed.{Failed}
 use Rattle.relay_tool.proofs.Slots.{kept-at, same-slot}
+use Rattle.relay_tool.proofs.Reading.{read-otherwise}
 use Rattle.relay_tool.proofs.Staging.{unbegun, written-file}
 use Rattle.relay_tool.proofs.Replaying.{Read, opened-by}
 use Rattle.room_io.proofs.Rooms.{tells-OnlyAt}
@@ -70,6 +71,7 @@ module _ (asked : Asked) (other : IsRecording (Some asked) → ⊥) {a b : RoomS
       ready = λ slot file some. ap (λ (x : SlotState). x.is_ready) (still puts.only slot (written-file slot file).0) ∙ start.ready slot file some;
     });
     unstarted = λ no. absurd (no refl);
+    read = read-otherwise (Some asked) 0 (λ e. cc) (λ e. cc);
   })
 
   pub answer-fault : (failed : Failed) → IsTrue (uses (Some asked) Answer) → Puts Answer text b d (Err failed) → Leaves (Some asked) a d (fault failed.slot)

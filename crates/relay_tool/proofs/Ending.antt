@@ -5,14 +5,16 @@ use Rattle.std.proofs.lemmas.Bool.{cases_Bool}
 use Rattle.room_io.specs.Room.{RoomState, SlotState, at, OnlyAt, Rose, IsFile, AppendsPart}
 use Rattle.room_io.specs.declared.room.Slot.{Slot}
 use Rattle.room_io.specs.declared.room.Slot.TheVariants.{Settings, Capture, Goose, Log, Config, Data, Note, Answer}
+use Rattle.capture_feed.specs.Left.{HasNoHeader}
 use Rattle.relay_tool.specs.Endings.{Ending, status_of, note_of, done, usage, refused, not_capture, cut, damaged, too_long, fault, no_memory, no_trip, no_line}
 use Rattle.relay_tool.specs.Words.{Asked, replay, check, drill, study, recording, word_of}
 use Rattle.relay_tool.specs.Output.{Item}
-use Rattle.relay_tool.specs.Run.{Run, Job, replay_job, study_job, run_of, all_writes}
+use Rattle.relay_tool.specs.Run.{Run, Job, replay_job, study_job, run_of, content_of, all_writes}
 use Rattle.relay_tool.specs.Files.{IsWritten, Reaches, AreReady, AreNamed, IsNamedBy, IsUnstarted, HasSettingsAlone, IsStarted, is_slot, front}
-use Rattle.relay_tool.specs.Answers.{AnswersTo, IsNoted, JobFault, CaptureFault, FailsAt, IsRecording, most_status, OpensPair, HasOpened}
+use Rattle.relay_tool.specs.Answers.{AnswersTo, IsNoted, JobFault, CaptureFault, FailsAt, IsRecording, most_status, OpensPair, HasOpened, HasRead}
 use Rattle.relay_tool.specs.Leaving.{Gives, Completes, Leaves}
 use Rattle.relay_tool.proofs.Slots.{same-slot, kept-at}
+use Rattle.relay_tool.proofs.Reading.{read-otherwise}
 use Rattle.relay_tool.proofs.Staging.{Laws, written-file, alone-unstarted}
 
 -- ---- the note
@@ -144,6 +146,12 @@ module _ {mid new : RoomState} (only : OnlyAt Note mid new) where
   opened-new (Some (study s names)) run old status start = started-new (Some (study s names)) start
   opened-new (Some (recording names)) run old status opens = pair-new (Some (recording names)) run old status opens
 
+  read-new : (asked : Option Asked) (old : RoomState) (status : ℕ) → HasRead asked old mid status → HasRead asked old new status
+  read-new asked old status read = record {
+    settings = λ told e name is. ap (λ (s : SlotState). s.bytes) (kept Settings refl) ∙ read.settings told e name is;
+    capture = λ told e name is. subst (λ (s : SlotState). HasNoHeader (content_of old.contents name) s.bytes) (sym (kept Capture refl)) (read.capture told e name is);
+  }
+
   gives-new : (run : Run) (ending : Ending) → Gives run ending mid → Gives run ending new
   gives-new run ending g = record { ends_as = g.ends_as; files = written-new run.writes g.files; answer = ap (λ (s : SlotState). s.bytes) answer-new ∙ g.answer }
 
@@ -189,6 +197,7 @@ module _ (asked : Option Asked) (old mid new : RoomState) (law : Laws new) (only
     started = λ e. opened-new only asked (run_of asked old.contents) old (status_of ending) (end.started e);
     unstarted = λ not_end _. unstarted-new only (end.unstarted not_end);
     unopened = λ e. alone-new only (alone e);
+    read = read-new only asked old (status_of ending) end.read;
     named = named-new only asked work.named;
     unready = λ slot file _ none. (law.unopened slot file none).not_ready;
     later = later-new only old work.later later;
@@ -213,6 +222,7 @@ module _ (asked : Option Asked) (old mid new : RoomState) (law : Laws new) (only
         started = λ e. cc;
         unstarted = λ _ not6. absurd (not6 refl);
         unopened = λ e. cc;
+        read = read-otherwise asked 6 (λ e. cc) (λ e. cc);
         named = named-new only asked work.named;
         unready = λ s file _ none. (law.unopened s file none).not_ready;
         later = later-new only old work.later later;
@@ -235,6 +245,7 @@ module _ (asked : Option Asked) (old mid new : RoomState) (law : Laws new) (only
     started = λ e. cc;
     unstarted = λ _ _. unstarted-new only (alone-unstarted work.end.unopened);
     unopened = λ e. cc;
+    read = read-otherwise asked 7 (λ e. cc) (λ e. cc);
     named = named-new only asked work.named;
     unready = λ slot file _ none. (law.unopened slot file none).not_ready;
     later = later-new only old work.later later;

@@ -9,7 +9,7 @@ use Rattle.room_io.specs.declared.room.Slot.{Slot}
 use Rattle.room_io.specs.declared.room.Slot.TheVariants.{Settings, Capture, Goose, Log, Config, Data, Note, Answer}
 use Rattle.capture_feed.specs.Records.{Records, Stop, Whole, Damaged, Cut, TooLong}
 use Rattle.capture_feed.specs.Captures.{records}
-use Rattle.capture_feed.specs.Left.{found, Begins}
+use Rattle.capture_feed.specs.Left.{found, Begins, HasNoHeader}
 use Rattle.capture_feed.specs.declared.feed.Feed.{Feed}
 use Rattle.relay_settings.specs.Settings.{PlainLine, PlainSettings}
 use Rattle.relay_settings.specs.declared.types.Common.{Common}
@@ -38,6 +38,7 @@ use Rattle.relay_tool.proofs.Slots.{kept-at, same-slot, clash}
 use Rattle.relay_tool.proofs.Placing.{in-after, in-pair}
 use Rattle.relay_tool.proofs.Staging.{Staged, Laws, staged-at, staged-uses, used-word, written-file, nothing, unbegun, alone-unstarted}
 use Rattle.relay_tool.proofs.Treating.{works-reads, apart}
+use Rattle.relay_tool.proofs.Reading.{read-headerless, read-otherwise}
 use Rattle.relay_tool.proofs.Replaying.{Read, leaves, answer-none}
 use Rattle.relay_tool.proofs.Pairing.{data_of-length}
 
@@ -157,6 +158,7 @@ module _ (names : RecordNames) where
       gives = λ told. subst (λ (r : Run). Gives r no_line b) (sym (run-named a s None (by told) none)) (record { ends_as = refl; files = read.empty; answer = answer-none read told });
       started = λ e. cc;
       unstarted = λ _. alone-unstarted read.alone;
+      read = read-otherwise (Some (recording names)) 10 (λ e. cc) (λ e. cc);
     },
   )
 
@@ -206,6 +208,7 @@ module _ (names : RecordNames) where
             (record { ends_as = refl; files = nothing law unstarted; answer = answer-still read.unused (stage-capture read capture) told });
         started = λ e. cc;
         unstarted = λ _. unstarted;
+        read = read-headerless (recording names) names.capture refl (λ told. subst (λ whole. HasNoHeader whole d.capture.bytes) same (end (read.stage.tells ∙ told)));
       })
       go captures.Fault end = capture-fault s line read.unused (stage-capture read capture) law unstarted
           (let h = read.stage.later Capture in let r : Rose b.capture.faults d.capture.faults = end.rose in omega arith) by is
@@ -271,11 +274,11 @@ module _ (names : RecordNames) where
         gives e by told = subst (λ (r : Run). Gives r e h) (sym (by told)) (record { ends_as = refl; files = nothing law at_stop.none; answer = answer-still at_stop.unused at_stop.stage told })
 
         go : (x : Stopped) → (IsTrue a.tells → run_of (Some (recording names)) a.contents ≡ ended (lacking_end x count)) → Leaves (Some (recording names)) a h (lacking_end x count)
-        go stopped.Whole by = leaves (recording names) (no_trip count) at_stop.stage (tt, record { usage = (λ e. cc, λ e. cc); gives = gives (no_trip count) by; started = λ e. cc; unstarted = λ _. at_stop.none })
-        go (stopped.Cut n) by = leaves (recording names) (cut n) at_stop.stage (record { usage = (λ e. cc, λ e. cc); gives = gives (cut n) by; started = λ _. opens (cut n) by 4 (λ e. cc); unstarted = λ _. at_stop.none })
+        go stopped.Whole by = leaves (recording names) (no_trip count) at_stop.stage (tt, record { usage = (λ e. cc, λ e. cc); gives = gives (no_trip count) by; started = λ e. cc; unstarted = λ _. at_stop.none; read = read-otherwise (Some (recording names)) 9 (λ e. cc) (λ e. cc) })
+        go (stopped.Cut n) by = leaves (recording names) (cut n) at_stop.stage (record { usage = (λ e. cc, λ e. cc); gives = gives (cut n) by; started = λ _. opens (cut n) by 4 (λ e. cc); unstarted = λ _. at_stop.none; read = read-otherwise (Some (recording names)) 4 (λ e. cc) (λ e. cc) })
         go (stopped.Damaged n size) by =
-            leaves (recording names) (damaged n size) at_stop.stage (record { usage = (λ e. cc, λ e. cc); gives = gives (damaged n size) by; started = λ _. opens (damaged n size) by 5 (λ e. cc); unstarted = λ _. at_stop.none })
-        go (stopped.TooLong n) by = leaves (recording names) (too_long n) at_stop.stage (record { usage = (λ e. cc, λ e. cc); gives = gives (too_long n) by; started = λ _. opens (too_long n) by 8 (λ e. cc); unstarted = λ _. at_stop.none })
+            leaves (recording names) (damaged n size) at_stop.stage (record { usage = (λ e. cc, λ e. cc); gives = gives (damaged n size) by; started = λ _. opens (damaged n size) by 5 (λ e. cc); unstarted = λ _. at_stop.none; read = read-otherwise (Some (recording names)) 5 (λ e. cc) (λ e. cc) })
+        go (stopped.TooLong n) by = leaves (recording names) (too_long n) at_stop.stage (record { usage = (λ e. cc, λ e. cc); gives = gives (too_long n) by; started = λ _. opens (too_long n) by 8 (λ e. cc); unstarted = λ _. at_stop.none; read = read-otherwise (Some (recording names)) 8 (λ e. cc) (λ e. cc) })
 
     pub lacking-end : (stop : Stopped) (count : ℕ) → (IsTrue a.tells → ending_of_stop stop ≡ ending_at f.stop (length f.bodies)) → (IsTrue a.tells → count ≡ trips) → (IsTrue a.tells → trips < names.trip) → Leaves (Some (recording names)) a h (lacking_end stop count)
     lacking-end stop count ends counted few = lacks stop count (λ told.
@@ -441,7 +444,7 @@ module _ (names : RecordNames) where
                 gives e is told = subst (λ (r : Run). Gives r e z) (sym (run-pair told)) (record { ends_as = sym (is told); files = written_z pair told (all told); answer = answer-still at_stop.unused stage_z told })
 
                 go : (x : Stopped) → (IsTrue a.tells → ending_of_stop x ≡ ending_at f.stop (length f.bodies)) → Leaves (Some (recording names)) a z (ending_of_stop x)
-                go stopped.Whole is = leaves (recording names) done stage_z (record { usage = (λ e. cc, λ e. cc); gives = gives done is; started = λ _. opens 0; unstarted = λ no. absurd (no refl) })
-                go (stopped.Cut n) is = leaves (recording names) (cut n) stage_z (record { usage = (λ e. cc, λ e. cc); gives = gives (cut n) is; started = λ _. opens 4; unstarted = λ no. absurd (no refl) })
-                go (stopped.Damaged n size) is = leaves (recording names) (damaged n size) stage_z (record { usage = (λ e. cc, λ e. cc); gives = gives (damaged n size) is; started = λ _. opens 5; unstarted = λ no. absurd (no refl) })
-                go (stopped.TooLong n) is = leaves (recording names) (too_long n) stage_z (record { usage = (λ e. cc, λ e. cc); gives = gives (too_long n) is; started = λ _. opens 8; unstarted = λ no. absurd (no refl) })
+                go stopped.Whole is = leaves (recording names) done stage_z (record { usage = (λ e. cc, λ e. cc); gives = gives done is; started = λ _. opens 0; unstarted = λ no. absurd (no refl); read = read-otherwise (Some (recording names)) 0 (λ e. cc) (λ e. cc) })
+                go (stopped.Cut n) is = leaves (recording names) (cut n) stage_z (record { usage = (λ e. cc, λ e. cc); gives = gives (cut n) is; started = λ _. opens 4; unstarted = λ no. absurd (no refl); read = read-otherwise (Some (recording names)) 4 (λ e. cc) (λ e. cc) })
+                go (stopped.Damaged n size) is = leaves (recording names) (damaged n size) stage_z (record { usage = (λ e. cc, λ e. cc); gives = gives (damaged n size) is; started = λ _. opens 5; unstarted = λ no. absurd (no refl); read = read-otherwise (Some (recording names)) 5 (λ e. cc) (λ e. cc) })
+                go (stopped.TooLong n) is = leaves (recording names) (too_long n) stage_z (record { usage = (λ e. cc, λ e. cc); gives = gives (too_long n) is; started = λ _. opens 8; unstarted = λ no. absurd (no refl); read = read-otherwise (Some (recording names)) 8 (λ e. cc) (λ e. cc) })

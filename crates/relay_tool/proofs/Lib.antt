@@ -8,6 +8,7 @@ pub mod Studying
 pub mod Framing
 pub mod Treating
 pub mod Accepting
+pub mod Reading
 pub mod Staging
 pub mod Ending
 pub mod Replaying

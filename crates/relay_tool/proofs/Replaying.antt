@@ -7,7 +7,7 @@ use Rattle.room_io.specs.declared.room.Slot.{Slot}
 use Rattle.room_io.specs.declared.room.Slot.TheVariants.{Settings, Capture, Goose, Log, Config, Data, Note, Answer}
 use Rattle.capture_feed.specs.Records.{Records, Stop, Whole, Damaged, Cut, TooLong}
 use Rattle.capture_feed.specs.Captures.{records}
-use Rattle.capture_feed.specs.Left.{found, Begins}
+use Rattle.capture_feed.specs.Left.{found, Begins, HasNoHeader}
 use Rattle.capture_feed.specs.declared.feed.Feed.{Feed}
 use Rattle.relay_settings.specs.Settings.{PlainSettings}
 use Rattle.relay_settings.specs.declared.types.Settings.{Settings as SettingsRead}
@@ -34,6 +34,7 @@ use Rattle.relay_tool.specs.declared.run.Stopped.TheVariants as stopped
 use Rattle.relay_tool.proofs.Slots.{kept-at, same-slot, clash}
 use Rattle.relay_tool.proofs.Placing.{AreIn, in-after, in-heard, in-study, in-out}
 use Rattle.relay_tool.proofs.Writing.{OnlyUses-refl, Appends-more, FailsIn-lift, Appends-nothing}
+use Rattle.relay_tool.proofs.Reading.{read-refused, read-headerless, read-otherwise}
 use Rattle.relay_tool.proofs.Staging.{Staged, Laws, staged-none, staged-at, staged-uses, used-word, unused-name, written-file, nothing, unbegun, front-all, alone-unstarted}
 
 -- ---- the settings
@@ -96,9 +97,10 @@ settings-end asked name {a} {b} stops.Fault is read refuses end = leaves asked (
 )
 settings-end asked name {a} {b} (stops.Refused number key) is read refuses end = leaves asked (refused number key.bytes) read.stage (record {
   usage = (λ e. cc, λ e. cc);
-  gives = λ told. subst (λ (r : Run). Gives r (refused number key.bytes) b) (sym (refuses (refusal number key.bytes) (end told))) (record { ends_as = refl; files = read.empty; answer = answer-none read told });
+  gives = λ told. subst (λ (r : Run). Gives r (refused number key.bytes) b) (sym (refuses (refusal number key.bytes) (end told).accepted)) (record { ends_as = refl; files = read.empty; answer = answer-none read told });
   started = λ e. cc;
   unstarted = λ _. alone-unstarted read.alone;
+  read = read-refused asked name is (λ told. (end told).left);
 })
 settings-end asked name stops.NoMemory is read refuses end = memory-end asked read
 
@@ -221,6 +223,7 @@ module _ (asked : Asked) (job : Job) (is : IsJob asked job) where
             (record { ends_as = refl; files = nothing law unstarted; answer = answer-still read.unused (stage-capture read capture) told });
         started = λ e. cc;
         unstarted = λ _. unstarted;
+        read = read-headerless asked job.capture is.capture_word (λ told. subst (λ whole. HasNoHeader whole d.capture.bytes) same (end (told_b told)));
       })
       go captures.Fault end = leaves asked (fault Capture) (stage-capture read capture) (
         (λ e. cc),
@@ -485,10 +488,10 @@ module _ (asked : Asked) (job : Job) (is : IsJob asked job) where
             (record { ends_as = sym w.ending; files = header-then h (found feed g.capture.bytes).bodies told w.written; answer = answer-still opened.begun.unused stage told })
 
         go : (x : Stopped) → (IsTrue g.tells → StopsAsFound (job.tells s) (found feed g.capture.bytes) g h x) → Leaves (Some asked) a h (ending_of_stop x)
-        go stopped.Whole says = leaves asked done stage (record { usage = (λ e. cc, λ e. cc); gives = gives stopped.Whole says; started = λ _. opened-by asked is.other (run_of (Some asked) a.contents) a 0 start; unstarted = λ no. absurd (no refl) })
-        go (stopped.Cut n) says = leaves asked (cut n) stage (record { usage = (λ e. cc, λ e. cc); gives = gives (stopped.Cut n) says; started = λ _. opened-by asked is.other (run_of (Some asked) a.contents) a 4 start; unstarted = λ no. absurd (no refl) })
-        go (stopped.Damaged n size) says = leaves asked (damaged n size) stage (record { usage = (λ e. cc, λ e. cc); gives = gives (stopped.Damaged n size) says; started = λ _. opened-by asked is.other (run_of (Some asked) a.contents) a 5 start; unstarted = λ no. absurd (no refl) })
-        go (stopped.TooLong n) says = leaves asked (too_long n) stage (record { usage = (λ e. cc, λ e. cc); gives = gives (stopped.TooLong n) says; started = λ _. opened-by asked is.other (run_of (Some asked) a.contents) a 8 start; unstarted = λ no. absurd (no refl) })
+        go stopped.Whole says = leaves asked done stage (record { usage = (λ e. cc, λ e. cc); gives = gives stopped.Whole says; started = λ _. opened-by asked is.other (run_of (Some asked) a.contents) a 0 start; unstarted = λ no. absurd (no refl); read = read-otherwise (Some asked) 0 (λ e. cc) (λ e. cc) })
+        go (stopped.Cut n) says = leaves asked (cut n) stage (record { usage = (λ e. cc, λ e. cc); gives = gives (stopped.Cut n) says; started = λ _. opened-by asked is.other (run_of (Some asked) a.contents) a 4 start; unstarted = λ no. absurd (no refl); read = read-otherwise (Some asked) 4 (λ e. cc) (λ e. cc) })
+        go (stopped.Damaged n size) says = leaves asked (damaged n size) stage (record { usage = (λ e. cc, λ e. cc); gives = gives (stopped.Damaged n size) says; started = λ _. opened-by asked is.other (run_of (Some asked) a.contents) a 5 start; unstarted = λ no. absurd (no refl); read = read-otherwise (Some asked) 5 (λ e. cc) (λ e. cc) })
+        go (stopped.TooLong n) says = leaves asked (too_long n) stage (record { usage = (λ e. cc, λ e. cc); gives = gives (stopped.TooLong n) says; started = λ _. opened-by asked is.other (run_of (Some asked) a.contents) a 8 start; unstarted = λ no. absurd (no refl); read = read-otherwise (Some asked) 8 (λ e. cc) (λ e. cc) })
 
     pub stops-end : (h : RoomState) (stop : Stopped) → Runs (job.tells s) (found feed) g h (Ok stop) → Leaves (Some asked) a h (ending_of_stop stop)
     stops-end h stop runs = stop-end h stop (staged-uses (Some asked) refl refl stage_g runs.only) (started-uses (started-uses opened.start made.only) runs.only) runs.stops

@@ -1,16 +1,17 @@
 -- What a room is after a run of the relay: statuses, notes, names and contents, what stands after a fault, and completeness.
-use Rattle.std.specs.Prelude.{◌≡◌, ◌≢◌, ◌⊎◌, ◌↔◌, ℕ, ◌≤◌, ◌<◌, Bool, ◌&&◌, ◌||◌, IsTrue, IsSome, is_some, List, [], ◌∷◌, ◌++◌, length, take, Option, None, Some, Ok, true, ◌==◌, false}
+use Rattle.std.specs.Prelude.{◌≡◌, ◌≢◌, ◌⊎◌, ◌↔◌, ℕ, ◌≤◌, ◌<◌, Bool, ◌&&◌, ◌||◌, IsTrue, IsSome, is_some, List, [], ◌∷◌, ◌++◌, length, take, drop, Option, None, Some, Ok, true, ◌==◌, false}
 use Rattle.std.specs.List.{list_any}
 use Rattle.room_io.specs.Room.{RoomState, at, Rose, IsFile, IsOutput}
 use Rattle.room_io.specs.declared.room.Slot.{Slot}
 use Rattle.room_io.specs.declared.room.Slot.TheVariants.{Settings, Capture, Note, Answer}
 use Rattle.capture_feed.specs.Records.{Records}
 use Rattle.capture_feed.specs.Captures.{records}
+use Rattle.capture_feed.specs.Left.{HasNoHeader}
 use Rattle.relay_settings.specs.Settings.{PlainSettings}
 use Rattle.settings_read.specs.Accepted.{accepted}
 use Rattle.relay_tool.specs.Endings.{status_of, note_of, fault, no_memory, not_capture, no_line, done}
 use Rattle.relay_tool.specs.Words.{Asked, replay, check, drill, study, recording, form, word_of}
-use Rattle.relay_tool.specs.Run.{Run, Job, replay_job, study_job, run_of, content_of, all_writes, most_capture}
+use Rattle.relay_tool.specs.Run.{Run, Job, replay_job, study_job, run_of, content_of, all_writes, most_settings, most_capture}
 use Rattle.relay_tool.specs.Files.{is_slot, IsWritten, Reaches, AreNamed, IsUnstarted, HasSettingsAlone, IsStarted}
 
 -- the note is a front of this text, and all of it where the count of Note did not rise
@@ -119,6 +120,13 @@ abbrev pub HasOpened : Option Asked → Run → RoomState → RoomState → ℕ 
 HasOpened (Some (recording names)) run old new status = OpensPair (Some (recording names)) run old new status
 HasOpened asked run old new status = IsStarted asked new
 
+-- how much of an input was read where that input ended the run, by the name that the words give it
+pub record HasRead (asked : Option Asked) (old new : RoomState) (status : ℕ) : Type 0 where
+  -- of refused settings all, or as far as one byte beyond their limit
+  pub settings : IsTrue old.tells → status ≡ 2 → (name : List ℕ) → word_of asked Settings ≡ Some name → new.settings.bytes ≡ drop most_settings (content_of old.contents name)
+  -- of what is no capture at least the bytes of a header, or all where it is shorter
+  pub capture : IsTrue old.tells → status ≡ 3 → (name : List ℕ) → word_of asked Capture ≡ Some name → HasNoHeader (content_of old.contents name) new.capture.bytes
+
 -- the room tells content, and neither a fault nor want of memory ended the run
 abbrev pub IsWhole : RoomState → ℕ → Type 0
 IsWhole old status = IsTrue old.tells × (status ≢ 6) × (status ≢ 7)
@@ -140,6 +148,7 @@ pub record AnswersTo (asked : Option Asked) (old new : RoomState) (status : ℕ)
   pub started : IsEnd status → HasOpened asked (run_of asked old.contents) old new status
   pub unstarted : (IsEnd status → ⊥) → status ≢ 6 → IsUnstarted new
   pub unopened : status ≡ 10 → HasSettingsAlone new
+  pub read : HasRead asked old new status
   pub named : AreNamed asked new
   pub unready : (slot : Slot) → IsFile slot → IsOutput slot → (at new slot).name ≡ None → (at new slot).is_ready ≡ false
   pub later : (slot : Slot) → (at old slot).faults ≤ (at new slot).faults

@@ -6,7 +6,7 @@ use Rattle.relay_tool.specs.Endings.{Ending, status_of, fault, no_memory, no_tri
 use Rattle.relay_tool.specs.Words.{Asked}
 use Rattle.relay_tool.specs.Run.{Run, run_of}
 use Rattle.relay_tool.specs.Files.{IsWritten, AreNamed, IsUnstarted, HasSettingsAlone}
-use Rattle.relay_tool.specs.Answers.{FailsAt, IsOutOfMemory, IsEnd, IsRecording, HasOpened}
+use Rattle.relay_tool.specs.Answers.{FailsAt, IsOutOfMemory, IsEnd, IsRecording, HasOpened, HasRead}
 
 -- the run ended so, and all that it writes was written
 pub record Gives (run : Run) (ending : Ending) (new : RoomState) : Type 0 where
@@ -20,6 +20,7 @@ pub record Completes (asked : Option Asked) (ending : Ending) (old new : RoomSta
   pub gives : IsTrue old.tells → Gives (run_of asked old.contents) ending new
   pub started : IsEnd (status_of ending) → HasOpened asked (run_of asked old.contents) old new (status_of ending)
   pub unstarted : (IsEnd (status_of ending) → ⊥) → IsUnstarted new
+  pub read : HasRead asked old new (status_of ending)
 
 abbrev pub EndsAs : Option Asked → RoomState → RoomState → Ending → Type 0
 EndsAs asked old new (fault slot) = (asked ≡ None → ⊥) × FailsAt asked slot (run_of asked old.contents) old new

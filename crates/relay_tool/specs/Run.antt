@@ -59,6 +59,10 @@ study_job s names = record { settings = names.settings; capture = names.capture;
 abbrev pub all_writes : Job → PlainSettings → List (List ℕ) → List Item
 all_writes job settings bodies = job.head ++ out (job.tells settings) bodies
 
+-- a settings file is read to its end, or to one byte beyond its limit
+abbrev pub most_settings : ℕ
+most_settings = 1048577
+
 -- at most 2 ^ 40 bytes of a capture are read
 abbrev pub most_capture : ℕ
 most_capture = 2 ^ 40

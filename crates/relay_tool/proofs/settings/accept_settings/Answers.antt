@@ -4,7 +4,7 @@ use Rattle.settings_read.specs.Accepted.{accepted}
 use Rattle.relay_tool.specs.Accepting.{SettingsEnd}
 use Rattle.relay_tool.specs.declared.settings.SettingsStop.{SettingsStop}
 use Rattle.relay_tool.proofs.Slots.{told_at}
-use Rattle.relay_tool.proofs.Accepting.{accepts, settings-error}
+use Rattle.relay_tool.proofs.Accepting.{accepts, leaves-rest, settings-error}
 use Rattle.relay_tool.proofs.settings.accept_settings.Goals as goal
 
 pub returns-in-Ok-read_settings : goal.returns-in-Ok-read_settings
@@ -34,5 +34,7 @@ returns g c =
           (settings-error c.args.name.now (g.R.Room.state c.args.room.now) (g.R.Room.state c.read_up_to.new.room) c.in-Err-read_settings.error c.as_slice.result.now
           (λ told. accepts 1048577 (g.R.Room.state c.args.room.now).contents c.args.name.now (g.R.Room.state c.open_in.new.self).settings.bytes c.in-Ok-read_up_to.text.items refl (c.in-Ok.ensures.bytes told)
           (c.in-Ok-read_up_to.ensures.bytes (told_at c.in-Ok.ensures.only told)) ∙ ap accepted (sym c.as_slice.ensures.value))
-          c.in-Err-read_settings.ensures.exact);
+          c.in-Err-read_settings.ensures.exact
+          (λ told. leaves-rest (g.R.Room.state c.args.room.now).contents c.args.name.now (g.R.Room.state c.open_in.new.self).settings.bytes (g.R.Room.state c.read_up_to.new.room).settings.bytes (c.in-Ok.ensures.bytes told)
+          (c.in-Ok-read_up_to.ensures.left (told_at c.in-Ok.ensures.only told))));
     }
