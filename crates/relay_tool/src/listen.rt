@@ -1,7 +1,7 @@
 //! A capture's records, one by one, for the recorder of a trip: each frame is read, and each of its sample sets is
 //! heard. Nothing is written while a capture is heard, so there is no bank and no log here.
 ghost use Rattle.std.specs.Prelude.{◌≡◌, ◌≢◌, ◌+◌, ◌*◌, ◌<◌, ◌≤◌, ◌^◌, ◌++◌, ℕ, List, [], IsTrue, length, min, reverse, IfErr, OnOk};
-ghost use Rattle.room_io.specs.Room.{IsReadyIn, Stays, OnlyAt};
+ghost use Rattle.room_io.specs.Room.{IsReadyIn, OnlyAt};
 ghost use Rattle.room_io.specs.declared.room.Slot.TheVariants.{Capture};
 ghost use Rattle.capture_feed.specs.Left.{found, is_live};
 ghost use Rattle.relay_settings.specs.declared.types.Common.{Common};

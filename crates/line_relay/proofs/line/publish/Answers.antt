@@ -1,11 +1,9 @@
-use Rattle.std.proofs.Common.{◌≡◌, ◌∙◌, ap, sym, subst, List, ◌∷◌}
+use Rattle.std.proofs.Common.{◌∙◌, ap, sym, subst, ◌∷◌}
 use Rattle.std.proofs.lemmas.Bool.{not-true, cond-false}
-use Rattle.relay_settings.specs.declared.types.Common.{Common}
-use Rattle.relay_settings.specs.Settings.{PlainGoose}
 use Rattle.goose_publish.specs.declared.points.Points.{Points}
-use Rattle.goose_publish.specs.Publishing.{PointsTake, take_of, RisesTo, send_of}
+use Rattle.goose_publish.specs.Publishing.{take_of, RisesTo, send_of}
 use Rattle.goose_publish.specs.Publishers.{StandsFor}
-use Rattle.line_relay.specs.Published.{shown_take, IsNextTake}
+use Rattle.line_relay.specs.Published.{shown_take}
 use Rattle.line_relay.proofs.line.publish.Goals as goal
 
 pub returns-then-is_idle-clause-send : goal.returns-then-is_idle-clause-send

@@ -1,11 +1,10 @@
-use Rattle.std.proofs.Common.{◌≡◌, ◌<◌, ◌∙◌, ℕ, subst, ap, ap₂, sym, refl, leb, false, List, [], ◌∷◌, ◌||◌}
-use Rattle.std.specs.Prelude.{not, None, if◌then◌else◌}
+use Rattle.std.proofs.Common.{◌≡◌, ◌<◌, ◌∙◌, subst, ap, ap₂, sym, refl, leb, false, List, ◌∷◌, ◌||◌}
+use Rattle.std.specs.Prelude.{not, if◌then◌else◌}
 use Rattle.std.specs.Option.{ForSome, is_some}
 use Rattle.std.proofs.lemmas.Bool.{not-true, not-false, leb-false, both_ways}
 use Rattle.relay_settings.specs.declared.types.Common.{Common}
 use Rattle.relay_settings.specs.Times.{samples}
 use Rattle.goose_publish.specs.declared.points.Points.{Points}
-use Rattle.goose_publish.specs.Offsets.{offset_ms}
 use Rattle.goose_publish.specs.Publishing.{PointsTake, take_of, RisesTo, changes_now, is_due, next_count}
 use Rattle.goose_publish.specs.Schedules.{HasTaken, points_now}
 use Rattle.goose_publish.proofs.ScheduleLemmas.{stays, was_passed, due_now, same_next}
