@@ -21,6 +21,7 @@ mod tags;
 #[cfg(test)]
 mod tests;
 
+pub use frame::FrameRoom;
 pub use laws::{
     show_change_is_newest, show_counts_go_on_with_1, show_each_offset_counts, show_last_is_greatest,
 };

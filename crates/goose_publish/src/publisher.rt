@@ -1,7 +1,7 @@
 //! The publisher of a line.
 ghost use Rattle.std.specs.Prelude.{◌≡◌, ◌≤◌};
 
-use crate::frame::frame_bytes;
+use crate::frame::{FrameRoom, put_frame};
 use crate::points::{Points, Send};
 use crate::schedule::Schedule;
 use arrayvec::ArrayVec;
@@ -93,6 +93,20 @@ impl Publisher {
             EndsAtItsLength (fields_bytes common goose send.now) result.items }
         ensures long { length result.items ≤ 640 }
     {
-        frame_bytes(&self.common, &self.goose, send)
+        let mut room = FrameRoom::new();
+        self.frame_into(send, &mut room);
+        room.bytes
+    }
+
+    /// The same, in place of the frame that was made in the room before. The room is kept from frame to frame, and nothing
+    /// large is made or cleared.
+    pub fn frame_into(&self, send: &Send, room: &mut FrameRoom)
+        ensures bytes { (common : Common) (goose : PlainGoose) → HasSettings common goose self.now →
+            room.new.bytes.items ≡ frame_bytes common goose send.now }
+        ensures ends { (common : Common) (goose : PlainGoose) → HasSettings common goose self.now →
+            EndsAtItsLength (fields_bytes common goose send.now) room.new.bytes.items }
+        ensures long { length room.new.bytes.items ≤ 640 }
+    {
+        put_frame(room, &self.common, &self.goose, send);
     }
 }

@@ -22,7 +22,7 @@ use crate::quiet::greatest_part;
 use crate::shown::{Shown, points_of};
 use arrayvec::ArrayVec;
 use event_record::{At, at_of};
-use goose_publish::{Publisher, Send};
+use goose_publish::{FrameRoom, Publisher, Send};
 use memory_volt::MemoryVolt;
 use relay_num::{Cx, NoMemory, Steps};
 use relay_settings::{Common, LineSettings, samples_of};
@@ -264,6 +264,15 @@ impl Line {
         ensures long { length result.items ≤ 640 }
     {
         self.publisher.frame_bytes(send)
+    }
+
+    /// The same, in place of the frame that was made in the room before.
+    pub fn frame_into(&self, send: &Send, room: &mut FrameRoom)
+        ensures bytes { (common : Common) (settings : PlainLine) (asdus : List PlainAsdu) → StandsFor common settings asdus self.now →
+            room.new.bytes.items ≡ frame_bytes common settings.goose send.now }
+        ensures long { length room.new.bytes.items ≤ 640 }
+    {
+        self.publisher.frame_into(send, room);
     }
 }
 

@@ -16,7 +16,7 @@ use crate::put::{Failed, put, put_event};
 use arrayvec::ArrayVec;
 use capture_feed::put_record;
 use event_record::Event;
-use goose_publish::Send;
+use goose_publish::{FrameRoom, Send};
 use line_relay::{Burst, Line};
 use relay_num::{NoMemory, Steps};
 use relay_settings::Settings;
@@ -31,6 +31,14 @@ use sv_frame::Asdu;
 pub struct Lines {
     station: Station,
     burst: Burst,
+    sending: Sending,
+}
+
+/// Room for a frame that is sent, and for its record in the GOOSE capture. It is kept from frame to frame.
+#[derive(Drop)]
+struct Sending {
+    frame: FrameRoom,
+    record: ArrayVec<u8, 1064>,
 }
 
 impl Lines {
@@ -49,6 +57,10 @@ impl Lines {
         Ok(Lines {
             station,
             burst: Burst::new(),
+            sending: Sending {
+                frame: FrameRoom::new(),
+                record: ArrayVec::new(),
+            },
         })
     }
 }
@@ -77,12 +89,22 @@ impl Bank for Lines {
         let Some(place) = self.station.hear_into(a, &mut self.burst, steps) else {
             return Ok(());
         };
-        put_burst(room, self.station.line(place), &self.burst)
+        put_burst(
+            room,
+            self.station.line(place),
+            &self.burst,
+            &mut self.sending,
+        )
     }
 }
 
 /// Writes what a line tells of a sample set: the events, then the frame.
-fn put_burst<R: Room>(room: &mut R, line: &Line, burst: &Burst) -> Result<(), Failed>
+fn put_burst<R: Room>(
+    room: &mut R,
+    line: &Line,
+    burst: &Burst,
+    sending: &mut Sending,
+) -> Result<(), Failed>
     requires goose { IsReadyOut Goose (R.state room.old) }
     requires log { IsReadyOut Log (R.state room.old) }
     requires printable { All IsPrintable burst.now.events.items }
@@ -92,7 +114,7 @@ fn put_burst<R: Room>(room: &mut R, line: &Line, burst: &Burst) -> Result<(), Fa
 {
     put_events(room, line.name(), burst.events.as_slice())?;
     match &burst.send {
-        Some(send) => put_frame(room, line, send),
+        Some(send) => put_frame(room, line, send, sending),
         None => Ok(()),
     }
 }
@@ -110,22 +132,27 @@ fn put_events<R: Room>(room: &mut R, name: &[u8], events: &[Event]) -> Result<()
     Ok(())
 }
 
-/// Writes a frame that a line sends, as a record of the GOOSE capture. It isn't inlined, so that its room is
-/// cleared only where a frame is sent.
+/// Writes a frame that a line sends, as a record of the GOOSE capture. It isn't inlined, since few sample sets send one.
 #[inline(never)]
-fn put_frame<R: Room>(room: &mut R, line: &Line, send: &Send) -> Result<(), Failed>
+fn put_frame<R: Room>(
+    room: &mut R,
+    line: &Line,
+    send: &Send,
+    sending: &mut Sending,
+) -> Result<(), Failed>
     requires { IsReadyOut Goose (R.state room.old) }
     ensures only { OnlyWrites (R.state room.old) (R.state room.new) }
     ensures sends { (common : Common) (settings : PlainLine) (asdus : List PlainAsdu) → LineStandsFor common settings asdus line.now →
         Makes (send_items common settings (Some send.now)) (R.state room.old) (R.state room.new) result }
 {
     let at = line.moment(send.number);
-    let mut record: ArrayVec<u8, 1064> = ArrayVec::new();
+    line.frame_into(send, &mut sending.frame);
+    sending.record.clear();
     put_record(
-        &mut record,
+        &mut sending.record,
         at.seconds,
         at.nanos,
-        line.frame_bytes(send).as_slice(),
+        sending.frame.bytes.as_slice(),
     );
-    put(room, Slot::Goose, record.as_slice())
+    put(room, Slot::Goose, sending.record.as_slice())
 }
