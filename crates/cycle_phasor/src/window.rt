@@ -38,7 +38,6 @@ pub fn take_values<L: Ledger>(
 }
 
 /// Takes the values of the number that follows the window's.
-#[inline(always)]
 fn slide<L: Ledger>(
     ring: &mut History<[i64; 8]>,
     slider: &mut Slider,
